@@ -33,10 +33,11 @@ from ._symbols import Symbols, labels_of
 from ._views import Memory, Registers, SpecialRegisters, StatusRegisters, _value
 
 __version__ = "0.1.0"
-__all__ = ["Answer", "Breach", "CSRS", "Cap", "CherisimError", "Closed", "Console", "Door", "ImageFault", "Insn", "Machine", "Memory",
-           "NULL_UPPER", "OutOfMemory", "OutOfRange", "PAGE", "Perms", "Policy", "PolicyFault", "Proof", "RAM", "REGISTERS", "Ran", "Reach",
-           "ReachMember", "Registers", "SCRS", "SENTRY", "SpecialRegisters", "StatusRegisters", "Stop", "Symbols", "SymbolsFault",
-           "TextFault", "Timer", "UNSEALED", "Watched", "WrongThread", "decode", "disassemble", "encode", "execute"]
+__all__ = ["Answer", "Breach", "CSRS", "Cap", "CherisimError", "Closed", "Console", "Door", "ImageFault", "Insn", "Link", "Machine",
+           "Memory", "NULL_UPPER", "OutOfMemory", "OutOfRange", "PAGE", "Perms", "Policy", "PolicyFault", "Proof", "RAM", "REGISTERS",
+           "Ran", "Reach", "ReachMember", "Registers", "Replay", "SCRS", "SENTRY", "Schedule", "SpecialRegisters", "StatusRegisters",
+           "Stop", "Symbols", "SymbolsFault", "TextFault", "Timer", "UNSEALED", "Watched", "WrongThread", "decode", "disassemble", "encode",
+           "execute"]
 
 _PLACES = ((*_SHOWN, *tuple(SCRS)[:2]), tuple(SCRS)[2:])  # where members are found: registers, and special registers
 _ROOM = {"sent": 65536, "text": 4096, "reach": 64}  # the room of a buffer, which a call may need more than once
@@ -267,15 +268,22 @@ class Machine(Questions):
             raise OutOfRange(f"no gap {gap}")
         in_range("number of steps", steps, 64)
         in_range("tick", tick, 64)
-        lines, asked, data, table = [], c.Asked(tick=tick), bytes(memoryview(input)), self.symbols.table()
+        lines, asked, data = [], c.Asked(tick=tick), bytes(memoryview(input))
         for done in range(steps):
             if self.halted is not None:
                 break
             if done % gap == 0 and done // gap < len(data):
                 self.receive(data[done // gap:done // gap + 1])
-            lines.append(self._text(lib.cherisim_trace, table, len(table), c_uint64(done + 1), line=c_uint64()))
+            lines.append(self._trace_line(done + 1, self.symbols) + "\n")
             self._run_to(asked, done, done + 1)
         return "".join(lines)
+
+    def _trace_line(self, number: int, symbols: Symbols) -> str:
+        """The line of a trace for the next step, as that of step `number`, with labels and the line of a source: empty where it is halted.
+        """
+        table = symbols.table()
+        line = self._text(lib.cherisim_trace, table, len(table), c_uint64(number), line=c_uint64())
+        return line and line[:-1] + symbols.line(self.pc)
 
     def watch(self, policy: Union[Policy, str], steps: int, *, tick: int = 0, input: bytes = b"", gap: int = 1000) -> Watched:
         """Runs so many steps at most, as `cherisim run --policy` does: up to the first before which a reachable capability breaks a rule
@@ -292,7 +300,6 @@ class Machine(Questions):
     def audit(self, policy: Union[Policy, str], steps: int, *, tick: int = 0, input: bytes = b"", gap: int = 1000) -> List[Breach]:
         """Each part of a rule that is broken in a run, with the first step before which it is, as `cherisim audit` tells them. The machine
         stays as it is."""
-        from ._replay import Replay, Schedule  # which is made of this module, too
         policy, timetable, data = self._policed(policy, steps, tick, gap), c.Timetable(steps, gap, tick), bytes(memoryview(input))
         told = self._text(lib.cherisim_audit, policy.text, len(policy.text), policy.labels, len(policy.labels), byref(timetable), data,
                           len(data), line=c_uint64())
@@ -493,3 +500,7 @@ class Machine(Questions):
         state = "closed" if not self._handle.at else "on another thread" if get_ident() != self._thread else (
             f"pc {self.pc:#x} " + ("running" if self.halted is None else f"halted {self.halted}"))
         return f"<Machine {state}>"
+
+
+from ._origins import Link  # which are made of this module
+from ._replay import Replay, Schedule

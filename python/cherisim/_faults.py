@@ -27,11 +27,11 @@ class TextFault(CherisimError):
 
 
 class SymbolsFault(CherisimError):
-    """A line of a table of labels, counted from 1, has no address and label."""
+    """A line of a table of labels or of lines of a source, counted from 1, has no address with such a name."""
 
-    def __init__(self, line: int) -> None:
+    def __init__(self, line: int, what: str = "label") -> None:
         self.line = line
-        super().__init__(f"line {line}: no address and label")
+        super().__init__(f"line {line}: no address and {what}")
 
 
 class PolicyFault(CherisimError):

@@ -5,12 +5,14 @@ from typing import Callable, Dict, Iterable, Iterator, List, Optional, Tuple
 
 from . import (CSRS, PAGE, RAM, REGISTERS, SCRS, SENTRY, UNSEALED, Cap, CherisimError, Door, Machine, OutOfRange, Perms, Reach, ReachMember,
                disassemble)
+from ._faults import in_range
 from ._html import letters
-from ._symbols import Symbols
+from ._origins import Place, Told, place_of
+from ._replay import Replay
 
 _NO = {False: "no, until the next trap, unsealing or sealed jump\n", True: "no, until the next trap or unsealing\n"}  # through doors
 _MOVES = ("step", "tick", "byte", "until", "trap", "go", "changed", "back")
-_NOT_IN_C = ("origin", "lost")
+_MOST = 100_000_000  # events, over which `origin` and `lost` are answered
 _BANKS = ("regs", "scr", "csr", "caps")
 _QUESTIONS = {"store": (2,), "load": (2,), "execute": (2,), "learn": (2,), "keep": (0, 2), "send": (0,), "halt": (0,), "system": (0,),
               "timer": (0,), "hold": (1,)}  # how many operands each has
@@ -28,6 +30,8 @@ caps                    the capabilities in RAM
 mem ADDR LEN            bytes of RAM, at most 4096
 dis ADDR N              words of RAM as instructions, at most 1024
 reach, reach members    what the code that runs can come to hold, in sum and each; reach doors: through doors, too; reach dot: a graph
+origin R|ADDR           what a place's value was made of
+lost R|ADDR             where its tag went
 may store ADDR LEN      whether it may store there; load, execute, learn and keep likewise
 may send                whether it may send a byte; halt, system and timer likewise
 may hold TYPE           whether a member is sealed with an object type, or may seal with it
@@ -62,20 +66,24 @@ def _merged(ranges: Iterable[Tuple[int, int]]) -> Iterator[Tuple[int, int]]:
 
 
 class Monitor:
-    """Answers commands about a machine, with labels where a table has them."""
+    """Answers commands about a machine with its past, with labels and lines of sources where it has them."""
 
-    def __init__(self, machine: Callable[[], Machine], symbols: Symbols) -> None:
-        self._machine, self._symbols = machine, symbols
-        self._answers: Dict[str, Callable[..., str]] = {"reg": self._reg, "mem": self._mem, "dis": self._dis, "reach": self._reach,
-                                                        "may": self._may, "why": self._why, "help": lambda: HELP}
+    def __init__(self, replay: Replay) -> None:
+        self._replay, self._symbols = replay, replay.machine.symbols
+        self._answers: Dict[str, Callable[..., str]] = {
+            "reg": self._reg, "mem": self._mem, "dis": self._dis, "reach": self._reach, "may": self._may, "why": self._why,
+            "origin": lambda word: Told(replay, self._symbols).origin(self._past(word)),
+            "lost": lambda word: Told(replay, self._symbols).lost(self._past(word)), "help": lambda: HELP}
+
+    @property
+    def _machine(self) -> Machine:
+        return self._replay.machine
 
     def answer(self, line: str) -> str:
         """The reply to a command; a refusal changes nothing."""
         word, *given = line.split() or [""]
         if word in _MOVES:
             return "GDB's own commands move the machine\n"
-        if word in _NOT_IN_C:
-            return "the library has no such question: ask it of `cherisim debug`\n"
         if word in _BANKS:
             return self._bank(word) if not given else "fault B2\n"
         try:
@@ -86,10 +94,12 @@ class Monitor:
             return "fault B2\n"
 
     def _number(self, word: str) -> int:
-        return self._symbols[word] if word in self._symbols else int(word, 16 if word[:2] == "0x" else 10)
+        number = self._symbols[word] if word in self._symbols else int(word, 16 if word[:2] == "0x" else 10)
+        in_range("address", number, 64)
+        return number
 
     def _bank(self, word: str) -> str:
-        m = self._machine()
+        m = self._machine
         rows: List[Tuple[str, object]] = []
         if word == "caps":
             rows = [(self._symbols.shown(at), m.cap_at(at)) for at in m.tags()]
@@ -102,7 +112,7 @@ class Monitor:
     def _reg(self, name: str) -> str:
         if name not in REGISTERS:
             raise Fault("B2")
-        regs = self._machine().regs
+        regs = self._machine.regs
         return f"{list(regs)[REGISTERS[name]]} {regs[name]}\n"
 
     def _mem(self, address: str, length: str) -> str:
@@ -110,13 +120,13 @@ class Monitor:
         if not 1 <= count <= 4096:
             raise Fault("B2")
         try:
-            data = self._machine().mem[begin:begin + count]
+            data = self._machine.mem[begin:begin + count]
         except OutOfRange:
             raise Fault("B3") from None
         return "".join(f"{begin + n:016x}: {data[n:n + 16].hex(' ')}\n" for n in range(0, count, 16))
 
     def _dis(self, address: str, words: str) -> str:
-        begin, count, m = self._number(address), int(words, 0), self._machine()
+        begin, count, m = self._number(address), int(words, 0), self._machine
         if not 1 <= count <= 1024 or begin % 4:
             raise Fault("B2")
         if not RAM <= begin <= begin + 4 * count <= RAM + m.pages * PAGE:
@@ -125,11 +135,21 @@ class Monitor:
         text = ""
         for n in range(0, 4 * count, 4):
             word = int.from_bytes(data[n:n + 4], "little")
-            text += f"{self._symbols.shown(begin + n)} {word:08x} {disassemble(word, mode)}\n"
+            text += f"{self._symbols.shown(begin + n)} {word:08x} {disassemble(word, mode)}{self._symbols.line(begin + n)}\n"
         return text
 
     def _why(self) -> str:
-        return self._machine().why()
+        return self._machine.why()
+
+    def _past(self, word: str) -> Place:
+        """A place whose past is asked for."""
+        where = word if word in REGISTERS or word in SCRS else self._number(word)
+        if isinstance(where, int) and where % 16 or self._replay.number(self._replay.n) > _MOST:
+            raise Fault("B2")
+        try:
+            return place_of(where, self._machine)
+        except OutOfRange:
+            raise Fault("B3") from None
 
     # ---- reach
 
@@ -149,7 +169,7 @@ class Monitor:
     def _reach(self, what: str = "") -> str:
         if what not in ("", "members", "dot", "doors"):
             raise Fault("B2")
-        reach = self._machine().reach(doors=what == "doors")
+        reach = self._machine.reach(doors=what == "doors")
         if what == "dot":
             return self._graph(reach)
         if what == "members":
@@ -196,7 +216,7 @@ class Monitor:
         given = given[:-2] if doors else given
         if len(given) not in _QUESTIONS.get(what, ()):
             raise Fault("B2")
-        machine, numbers = self._machine(), [self._number(word) for word in given]
+        machine, numbers = self._machine, [self._number(word) for word in given]
         answer = getattr(machine, f"may_{what}")(*numbers, doors=doors)
         if answer is None:
             return _NO[doors]

@@ -3,11 +3,12 @@ what comes."""
 from __future__ import annotations
 
 from ctypes import byref
-from typing import Dict, NamedTuple, Optional, Sequence, Tuple
+from typing import Dict, List, NamedTuple, Optional, Sequence, Tuple, Union
 
 from . import Machine, OutOfRange, Stop
 from . import _library as c
 from ._library import lib
+from ._origins import Link, links
 
 _EVERY = 5_000_000  # steps between two states that are kept
 _KEPT, _BYTES = 32, 1 << 28  # states that are kept at most, and bytes of RAM in them: then every second one goes
@@ -42,10 +43,12 @@ class Replay:
         self._kept: Optional[Dict[int, Machine]] = {0: self._opening}
         self._most = max(2, min(_KEPT, _BYTES // len(machine.mem)))
 
-    def fork(self) -> Replay:
-        """The same of a copy of the machine; it has no past."""
+    def fork(self, at: Optional[int] = None) -> Replay:
+        """The same of a copy of the machine, as it stands or after an earlier step; it has no past."""
         other = Replay.__new__(Replay)
-        other.machine, other.schedule, other.n, other._kept = self.machine.copy(), self.schedule, self.n, None
+        machine, n = (self.machine, self.n) if at is None else self._near(at)
+        other.machine, other.schedule, other.n, other._kept = machine.copy(), self.schedule, n, None
+        other.run(0 if at is None else at - n)
         return other
 
     # ---- forwards
@@ -54,6 +57,12 @@ class Replay:
         at, apart = divmod(self.n, self.schedule.gap)
         if not apart and at < len(self.schedule.input) and self.machine.halted is None:
             self.machine.receive(self.schedule.input[at:at + 1])
+
+    def _stand(self) -> None:
+        """What comes where a step is done: the byte before the next one, and a state to keep."""
+        self._bring()
+        if self._kept is not None and not self.n % _EVERY:
+            self.keep()
 
     def _next(self) -> int:
         """Up to which step the machine may run at once: up to the next byte of the input or the next state to keep."""
@@ -74,9 +83,7 @@ class Replay:
             self.n, stop = self.machine._run_to(asked, self.n, mark)
             if self.n < mark or self.machine.halted is not None:
                 return stop
-            self._bring()
-            if self._kept is not None and not self.n % _EVERY:
-                self.keep()
+            self._stand()
             if self.n == end:
                 return stop
 
@@ -90,8 +97,14 @@ class Replay:
         return self.run(most, stops[0] if stops else None, ends)
 
     def step(self) -> None:
-        """One step."""
-        self.run(1)
+        """One step, with the tick after it."""
+        if self.machine.halted is not None:
+            return
+        self.machine.step()
+        self.n += 1
+        if self.schedule.tick and not self.n % self.schedule.tick and self.machine.halted is None:
+            self.machine.tick()
+        self._stand()
 
     # ---- backwards
 
@@ -109,14 +122,33 @@ class Replay:
         """The first step number that can be gone back to."""
         return min(self._kept) if self._kept else self.n
 
-    def go_to(self, n: int) -> None:
-        """To after step n, forwards or backwards; back to `begin` at most."""
+    def _near(self, n: int) -> Tuple[Machine, int]:
+        """The last state that is kept of those up to step n, and after which step it is."""
         assert self._kept is not None
         near = max(mark for mark in self._kept if mark <= n)
+        return self._kept[near], near
+
+    def go_to(self, n: int) -> None:
+        """To after step n, forwards or backwards; back to `begin` at most."""
+        machine, near = self._near(n)
         if not near <= self.n <= n:
-            self.machine, self.n = self._kept[near].copy(), near
+            self.machine, self.n = machine.copy(), near
         if self.n < n:
             self.run(n - self.n)
+
+    def number(self, step: int) -> int:
+        """The number of a step among all events: bytes, steps and ticks."""
+        before, (data, gap, tick) = step - 1, self.schedule
+        return step + min(len(data), before // gap + 1) + (before // tick if tick else 0)
+
+    def origin(self, where: Union[str, int]) -> List[Link]:
+        """What the value in a register, a special register or a granule was made of, as the debugger's `origin` shows it: the last step
+        that wrote it, then the last before that wrote its source, up to a number or data, or to what no remembered step wrote."""
+        return links(self, where, lost=False)
+
+    def lost(self, where: Union[str, int]) -> List[Link]:
+        """The steps at which the tag there went, and then that of its source, as the debugger's `lost` shows them."""
+        return links(self, where, lost=True)
 
     def forget(self) -> None:
         """What was before can't be gone back to: after a write, which is no event."""

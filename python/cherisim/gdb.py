@@ -18,7 +18,7 @@ from . import RAM, CherisimError, Machine, Stop
 from ._described import PC, SHAPES, description, is_written, memory_map, registers, value, write
 from ._monitor import Monitor, entry_is_fetched, next_cause
 from ._replay import Range, Replay, Schedule
-from ._symbols import Symbols
+from ._symbols import opened
 from ._wire import BOUND, TooLong, Wire
 
 STOPS = ("unhandled", "trap", "never")
@@ -78,10 +78,10 @@ def _piece(whole: str, where: str) -> str:
 class Bridge:
     """A conversation with GDB about a machine and its past."""
 
-    def __init__(self, replay: Replay, wire: Wire, asked: Asked, symbols: Symbols = Symbols()) -> None:
+    def __init__(self, replay: Replay, wire: Wire, asked: Asked) -> None:
         self.replay, self.wire, self.asked = replay, wire, asked
         self.registers, self.xml = registers(asked.caps), description(asked.caps)
-        self.monitor = Monitor(lambda: self.replay.machine, symbols)
+        self.monitor = Monitor(replay)
         self.breaks: Set[int] = set()
         self.watches: Set[Range] = set()
         self.last, self.ends, self.extended, self._quiet = "T05", False, False, False
@@ -447,14 +447,6 @@ def _standard() -> Wire:
     return Wire(read, write_all)
 
 
-def machine_of(name: str) -> Tuple[Machine, Symbols]:
-    """The machine of an image, or of a text with its labels."""
-    with open(name, "rb") as file:
-        data = file.read()
-    machine = Machine(text=data) if name.endswith(".s") else Machine(data)
-    return machine, machine.symbols
-
-
 def _schedule(asked: argparse.Namespace) -> Schedule:
     """That of `cherisim run` where one of its options is given, else none."""
     if all(it is None for it in (asked.input, asked.gap, asked.tick)):
@@ -471,6 +463,7 @@ def parser() -> argparse.ArgumentParser:
     made = argparse.ArgumentParser(prog="python3 -m cherisim.gdb", description=(__doc__ or "").splitlines()[0])
     made.add_argument("file", help="an image, or a text in the assembly language whose name ends in .s")
     made.add_argument("--symbols", help="a table of labels for `monitor`, as `cherisim asm --symbols` and `nm` write it")
+    made.add_argument("--lines", help="a table of lines of the source for it, as `cherisim asm --lines` and `nm -l` write it")
     made.add_argument("--input", help="a file whose bytes come on the console's line")
     made.add_argument("--gap", type=int, help="steps between two of its bytes (1000)")
     made.add_argument("--tick", type=int, help="steps between two ticks of the timer, 0 for none (100)")
@@ -484,15 +477,12 @@ def main(given: Optional[Sequence[str]] = None) -> int:
     """Talks up to the end; 1 where the file is refused."""
     asked = parser().parse_args(given)
     try:
-        machine, symbols = machine_of(asked.file)
-        if asked.symbols:
-            with open(asked.symbols, encoding="latin-1") as file:
-                symbols = Symbols.read(file.read())
+        machine = opened(asked.file, asked.symbols, asked.lines)
         replay = Replay(machine, _schedule(asked))
     except (CherisimError, OSError) as error:
         print(f"cherisim.gdb: {asked.file}: {error}", file=sys.stderr)
         return 1
-    Bridge(replay, _standard(), Asked(asked.stop, asked.halt, asked.caps), symbols).talk()
+    Bridge(replay, _standard(), Asked(asked.stop, asked.halt, asked.caps)).talk()
     return 0
 
 

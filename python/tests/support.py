@@ -3,6 +3,7 @@ import os
 import re
 import shutil
 import struct
+import subprocess
 import sys
 import unittest
 
@@ -31,6 +32,14 @@ def needs(*programs):
 
 def has_program():
     return os.path.exists(PROGRAM)
+
+
+def assembled(room, name):
+    """An example's image, its labels and its lines, as the program writes them into a folder."""
+    made = [os.path.join(room, f"{name}.{kind}") for kind in ("img", "sym", "lines")]
+    words = [PROGRAM, "asm", os.path.join(TOP, "examples", f"{name}.s"), made[0], "--symbols", made[1], "--lines", made[2]]
+    subprocess.run(words, check=True)
+    return made
 
 
 def read(*path):

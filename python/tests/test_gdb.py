@@ -12,11 +12,11 @@ import unittest
 
 import support
 from support import PAGE, RAM, read
-from cherisim import CSRS, SCRS, Machine, Stop, Symbols, TextFault
+from cherisim import CSRS, SCRS, Machine, Stop, Symbols, SymbolsFault, TextFault
 from cherisim import elf, gdb
 from cherisim._described import INTEGERS, registers
 from cherisim._replay import Replay, Schedule
-from cherisim._symbols import labels_of, lines_of
+from cherisim._symbols import labels_of
 from cherisim._wire import BOUND, Wire
 
 # Three numbers are stored, the greatest first, and the machine halts with 5: 13 steps.
@@ -65,7 +65,7 @@ class Line:
 def talk(machine, *packets, schedule=Schedule(), raw=None, **asked):
     """All bytes that come back of packets, the first of which asks for no acknowledgement."""
     line = Line(frame("QStartNoAckMode") + b"".join(map(frame, packets)) if raw is None else raw)
-    bridge = gdb.Bridge(Replay(machine, schedule), Wire(line.read, line.written.extend), gdb.Asked(**asked), machine.symbols)
+    bridge = gdb.Bridge(Replay(machine, schedule), Wire(line.read, line.written.extend), gdb.Asked(**asked))
     bridge.talk()
     return bytes(line.written), bridge
 
@@ -268,20 +268,32 @@ class Monitored(unittest.TestCase):
     def test_looks(self):
         machine = Machine(text=COUNT)
         machine.step(3)
-        elsewhere = "the library has no such question: ask it of `cherisim debug`\n"
         self.assertEqual(self.said(machine, "reg ca0", "mem 0x80000100 9", "mem start 4", "dis loop 2", "ago", "step 1", "go", "stops",
                                    "origin ca0", "nonsense", "reg 5", "mem 0 1", "mem 0x80000000 0", "dis 0x80000002 1", "caps", "may send",
                                    "may sing", "stop", "stop never", ""),
                          ["ca0 v:0 a:0000000000000003 b:0000000000000000 t:10000000000000000 p:00000 f:0 o:3ffff\n",
                           "0000000080000100: 03 00 00 00 00 00 00 00 00\n", "0000000080000000: 17 06 00 00\n",
                           "0000000080000008 <loop> 10a63023 sd a0, 256(a2)\n000000008000000c <loop+4> fff50513 addi a0, a0, -1\n", "0\n",
-                          *["GDB's own commands move the machine\n"] * 2, "", elsewhere,
+                          *["GDB's own commands move the machine\n"] * 2, "",
+                          "opening state: ca0 v:0 a:0000000000000003 b:0000000000000000 t:10000000000000000 p:00000 f:0 o:3ffff\n",
                           "fault B1\n", "fault B2\n", "fault B3\n", "fault B2\n", "fault B2\n", "",
                           "yes: pcc GXRWcCLsiuSd v:1 a:000000008000000c b:0000000000000000 t:10000000000000000 p:78fff f:0 o:3ffff\n",
                           "fault B2\n", "stop takes unhandled, trap, never\n", "", "fault B1\n"])
         self.assertEqual(self.said(machine, "why"), [machine.why()])
         self.assertEqual(self.said(machine, "regs")[0].splitlines()[10], f"ca0 {machine.regs['ca0']}")
         self.assertEqual(self.said(machine, "csr")[0].splitlines()[0], f"mstatus {machine.csrs['mstatus']:016x}")
+
+    def test_past(self):
+        """What a value was made of, with labels and lines of the source; the machine stays where it is."""
+        table = Symbols.read("0000000080000004 next\n0000000080000100 table\n", "0000000080000004 x.s:2: li a0, 3\n")
+        asked = ("origin a0", "lost table", "dis next 1", "origin 8", "lost 0x80001000", "origin", "lost a0 a1", "origin nowhere")
+        came = replies(Machine(text=COUNT, symbols=table), "s", "s", *("qRcmd," + line.encode().hex() for line in asked), "p20")
+        self.assertEqual(came.pop(), number(RAM + 8))
+        self.assertEqual([bytes.fromhex(it).decode() for it in came[2:]], [
+            "ca0 from no capability: 2 0000000080000004 <next> 00300513 addi a0, zero, 3: "
+            "ca0 = v:0 a:0000000000000003 b:0000000000000000 t:10000000000000000 p:00000 f:0 o:3ffff x.s:2: li a0, 3\n",
+            "no tag was lost at 0000000080000100 <table>\n", "0000000080000004 <next> 00300513 addi a0, zero, 3 x.s:2: li a0, 3\n",
+            "fault B2\n", "fault B3\n", *["fault B2\n"] * 3])
 
     def test_long(self):
         """A long reply goes in pieces, the last as the answer."""
@@ -404,19 +416,29 @@ class Commands(unittest.TestCase):
 class Tables(unittest.TestCase):
     """Labels, lines, and the table that GDB reads."""
 
-    def test_lines(self):
+    def test_labels(self):
         text = '.pages 2\n.mode 0\nfirst: second: nop\n'
         self.assertRaises(TextFault, Machine, text=text)
         text = (".pages 2\n.mode 0\nfirst:\nsecond: la a0, text # to: here\n .align 4\ntext: .ascii \"a#b: \\\"c\"\n.org 0x80001000\n"
                 "last: .zero 3\nend:\n")
-        found = [(it.number, it.begin, it.end, it.label, it.is_code) for it in lines_of(text)]
-        self.assertEqual(found, [(1, RAM, RAM, "", False), (2, RAM, RAM, "", False), (3, RAM, RAM, "first", False),
-                                 (4, RAM, RAM + 8, "second", True), (5, RAM + 8, RAM + 16, "", False),
-                                 (6, RAM + 16, RAM + 23, "text", False), (7, RAM + 23, RAM + 23, "", False),
-                                 (8, RAM + PAGE, RAM + PAGE + 3, "last", False),
-                                 (9, RAM + PAGE + 3, RAM + PAGE + 3, "end", False), (10, RAM + PAGE + 3, RAM + PAGE + 3, "", False)])
         self.assertEqual(labels_of(text).items(), [("first", RAM), ("second", RAM), ("text", RAM + 16), ("last", RAM + PAGE),
                                                    ("end", RAM + PAGE + 3)])
+        self.assertEqual(labels_of("asked: .pages 3\nnop\nend:").items(), [("asked", RAM), ("end", RAM + 4)])
+        self.assertEqual(labels_of("nop # none:\n").items(), [])
+
+    def test_lines(self):
+        """What `asm --lines` and `nm -l` write; of an address the first, up to 240 characters."""
+        lines = ("0000000080000000 x.s:1: la a0, x\n0000000080000004 x.s:1: la a0, x\n0000000080000004 x.s:2: nop\n"
+                 "0000000080000008 T main\t/home/main.c:12\n                 U printf\n000000008000000c t none\n"
+                 "0000000080000010 x.s:3: \u00e4" + 300 * "y" + "\n")
+        table = Symbols.read("0000000080000000 x\n", lines)
+        self.assertEqual(table.lines, {RAM: "x.s:1: la a0, x", RAM + 4: "x.s:1: la a0, x", RAM + 8: "/home/main.c:12",
+                                       RAM + 16: "x.s:3: ?" + 232 * "y"})
+        self.assertEqual((table.line(RAM), table.line(RAM + 12), elf.placed({RAM: "x.s:1: nop", RAM + 4: "?:?", 0: "y.s:2: nop"})),
+                         (" x.s:1: la a0, x", "", ("y.s", [(0, 2)])))
+        with self.assertRaises(SymbolsFault) as caught:
+            Symbols.read("", lines + "80000000 x.s:4: nop\n")
+        self.assertEqual(str(caught.exception), "line 8: no address and line of a source")
 
     @unittest.skipUnless(support.has_program(), support.NO_PROGRAM)
     def test_labels_as_the_program(self):
@@ -429,19 +451,35 @@ class Tables(unittest.TestCase):
                         self.assertEqual(Symbols.read(file.read()).items(), labels_of(read("examples", name).decode()).items(), name)
 
     @support.needs("readelf")
+    @unittest.skipUnless(support.has_program(), support.NO_PROGRAM)
     def test_elf(self):
-        """readelf finds no fault in the table, and its lines are those of the text."""
+        """readelf finds no fault in the table of an image, and its labels and lines are those of the text."""
         with tempfile.TemporaryDirectory() as room:
-            made = os.path.join(room, "bounds.elf")
-            self.assertEqual(elf.main([os.path.join(support.TOP, "examples", "bounds.s"), made]), 0)
+            made, (image, symbols, lines) = os.path.join(room, "bounds.elf"), support.assembled(room, "bounds")
+            self.assertEqual(elf.main([image, made, "--symbols", symbols, "--lines", lines]), 0)
             shown = subprocess.run(["readelf", "-a", made], capture_output=True, check=True, encoding="utf-8")
             self.assertNotIn("arning", shown.stdout + shown.stderr)
-            lines = subprocess.run(["readelf", "--debug-dump=decodedline", made], capture_output=True, check=True, encoding="utf-8").stdout
-        found = [(int(number), int(at, 16)) for number, at in re.findall(r"^\S+ +(\d+) +(0x\w+|0) ", lines, re.MULTILINE)]
-        text = read("examples", "bounds.s").decode()
-        self.assertEqual(found, [(it.number, it.begin) for it in lines_of(text) if it.is_code])
-        for name, address in labels_of(text).items():
+            words = ["readelf", "--debug-dump=decodedline", made]
+            decoded = subprocess.run(words, capture_output=True, check=True, encoding="utf-8").stdout
+            with open(lines, encoding="ascii") as file:
+                expected = re.findall(r"^(\w+) bounds.s:(\d+): ", file.read(), re.MULTILINE)
+        found = re.findall(r"^bounds.s +(\d+) +(0x\w+) ", decoded, re.MULTILINE)
+        self.assertEqual([(int(at, 16), int(number)) for number, at in found], [(int(at, 16), int(number)) for at, number in expected])
+        for name, address in Machine(text=read("examples", "bounds.s")).symbols.items():
             self.assertRegex(shown.stdout, rf"{address:016x} .* {name}\n")
+
+    def test_elf_of_a_text(self):
+        """A text has its own labels; without a table of lines there are none. Pages that hold something are sections."""
+        with tempfile.TemporaryDirectory() as room:
+            path, made = os.path.join(room, "x.s"), os.path.join(room, "x.elf")
+            with open(path, "w", encoding="ascii") as file:
+                file.write(".pages 4\nstart: nop\n.org 0x80002ffc\nlast: .word 7, 8\nend:\n")
+            self.assertEqual(elf.main([path, made]), 0)
+            with open(made, "rb") as file:
+                data = file.read()
+        self.assertEqual([name in data for name in (b"\0.text\0", b".text1\0", b".text2\0", b"\0start\0last\0end\0", b".debug_line")],
+                         [True, True, False, True, False])
+        self.assertEqual(data.count(Machine(text="nop\n").mem[:]) + data.count(b"\0" * 4092 + b"\7\0\0\0\x08\0\0\0"), 2)
 
     def test_refused(self):
         with tempfile.TemporaryDirectory() as room:
@@ -453,7 +491,7 @@ class Tables(unittest.TestCase):
                                      env={**os.environ, "PYTHONPATH": os.path.join(support.TOP, "python")}, check=False)
                 self.assertEqual((ran.returncode, ran.stdout), (1, ""), given)
             with contextlib.redirect_stderr(io.StringIO()):
-                self.assertEqual(elf.main([]), 2)
+                self.assertRaises(SystemExit, elf.main, [])
 
 
 if __name__ == "__main__":

@@ -40,6 +40,8 @@ OF_ASSEMBLY = [
     ("tbreak trap", "Temporary breakpoint 3 at ADDRESS"), ("reverse-continue", "Temporary breakpoint 3, trap \\(\\) at .*bounds.s:37"),
     ("reverse-stepi", "fill \\(\\) at .*bounds.s:28|28\\s+fill"),
     ("p/x $ca0", "address = 0x80000130, base = 0x80000120, top = 0x0*80000130, otype = 0x3ffff"),
+    ("monitor origin ca0", "ca0 from ca0: 83 0000000080000034 <fill\\+4> .* bounds.s:29: "),
+    ("monitor lost ca0", "no tag was lost at ca0"),
     ("kill", "\\[Inferior 1 \\(Remote target\\) killed\\]")]
 
 
@@ -83,19 +85,21 @@ class Sessions(unittest.TestCase):
         return table, self.at("sum.img")
 
     def assembled(self):
-        """The table and the text of bounds.s."""
+        """The table and the text of bounds.s, and the file of its lines."""
         path, table = os.path.join(support.TOP, "examples", "bounds.s"), self.at("bounds.elf")
-        self.assertEqual(elf.main([path, table]), 0)
-        return table, path
+        lines = support.assembled(self.room, "bounds")[2]
+        self.assertEqual(elf.main([path, table, "--lines", lines]), 0)
+        return table, path, lines
 
     @support.needs(GCC)
     def test_c(self):
         table, made = self.compiled()
         self.shows(gdb_on(table, made, [typed for typed, _ in OF_C if typed]), OF_C)
 
+    @unittest.skipUnless(support.has_program(), support.NO_PROGRAM)
     def test_assembly(self):
-        table, path = self.assembled()
-        self.shows(gdb_on(table, f"{path} --halt stay", [typed for typed, _ in OF_ASSEMBLY if typed]), OF_ASSEMBLY)
+        table, path, lines = self.assembled()
+        self.shows(gdb_on(table, f"{path} --halt stay --lines {lines}", [typed for typed, _ in OF_ASSEMBLY if typed]), OF_ASSEMBLY)
 
     @support.needs(GCC)
     def test_load(self):
@@ -139,9 +143,10 @@ class Sessions(unittest.TestCase):
             gdb.stdout.read()
         self.assertIn(b'signal-name="SIGINT"', came)
 
+    @unittest.skipUnless(support.has_program(), support.NO_PROGRAM)
     def test_letters(self):
         """With cherisim-gdb.py a capability is shown in letters, and rows of CHERI in x/i."""
-        table, path = self.assembled()
+        table, path, _ = self.assembled()
         beside = os.path.join(support.TOP, "python", "cherisim-gdb.py")
         came = gdb_on(table, path, [f"source {beside}", "break fill", "continue", "p $ca0", "x/i $pc"])
         self.assertRegex(came, r"tagged 0x80000120 in \[0x80000120, 0x80000130\) GXRW------S-")
