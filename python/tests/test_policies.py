@@ -136,7 +136,7 @@ class Proofs(unittest.TestCase):
         self.assertEqual(machine.prove("any code in 0x80000004..+4"), (False, "not shown: system\n  held  pcc\n"))
         machine.step()
         machine.scrs["mtcc"], machine.scrs["mepcc"], machine.scrs["ddc"] = 0, 0, 0
-        machine.scrs["pcc"] = machine.scrs["pcc"].set_bounds(4).and_perms(Perms.Execute)
+        machine.scrs["pcc"] = machine.scrs["pcc"].set_bounds(4)[0].and_perms(Perms.Execute)
         self.assertTrue(machine.prove("any code in 0x80000004..+4\nwhen pc in 0..0x80001000: load no, store no, system no").shown)
 
 

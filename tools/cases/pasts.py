@@ -231,6 +231,8 @@ def jumps():
     yield session("Links, AUIPCC and jumps in capability mode", IN_CAPABILITY_MODE, "step 1; origin cra; origin pcc; step 1; origin cra; "
                   "origin pcc; step 1; origin ca1; step 1; origin cnull; origin pcc; step 3; origin ca1; origin ca2; lost ca1; lost ca2")
     yield session("A jump to a capability without a tag traps", f"{HAS}jalr.cap cra, ca1", "step 11; origin pcc; origin cra; lost pcc")
+    yield session("A fence writes no register, whatever stands in the place of rd", ".mode 1; cspecialrw ca0, ddc, cnull; fence a0, a1, 255",
+                  "step 2; origin ca0; lost ca0")
     yield session("PCC where no event wrote it", ".mode 1; nop", "origin pcc; lost pcc; step 1; origin pcc; origin mepcc")
 
 

@@ -321,10 +321,9 @@ def profiles():
     yield from counts("--input keys --why ", 9, [start, loop], file_of("call.img", SENDS_AND_CALLS), SENDS_AND_CALLS, sent=b"A", done=3,
                       keys=b"A", parts=['keys "A"'], opened=", open keys, make p")
     yield from counts("--why=all ", 9, [], file_of("trap.img", LOADS_BY_NULL), LOADS_BY_NULL, done=0)
-    yield "# with a trace: the profile is made before, and closed after"
-    yield case("run first.img 9 --profile p --trace t", [FILE], 0, "open first.img, make p, make t", b"A",
-               made=profiled(SENDS_A, 9).encode())
-    yield case("run first.img 9 --profile z --trace t", [FILE], 0, "open first.img, make z, make t", b"A", made=TRACE.encode())
+    yield "# with a trace: the profile is made before, which is left empty where there is no room for a second file"
+    yield case("run first.img 9 --profile p --trace t", [FILE], 3, "open first.img, make p, make t",
+               told="cherisim: file t\n  No such file or directory\n")
     yield "# of a text its own labels"
     text = 'down.s "' + COUNTS_DOWN.replace("\n", "\\n") + '"'
     yield case("go down.s --profile p", [text], 0, "open down.s, make p", made=profiled(COUNTS_DOWN, 99, [loop, less]).encode())

@@ -51,9 +51,12 @@ def debugged(table):
                   "events 3 out 41 pc 000000008000000c <halt> running\nat 000000008000000c\nat 0000000080000000\n")
     yield session("mem start 5\nmem 2147483660 1", "0000000080000000: b7 05 00 10 13\n000000008000000c: b7\n")
     yield session("dis halt 1\nmem halt 1", "000000008000000c <halt> 001005b7 lui a1, 0x100\n000000008000000c: b7\n")
-    for typed in ("until stop 9", "mem stop 1", "dis stop 1", "mem Start 1", "mem star 1", "mem starts 1", "mem start: 1", "mem start+0 1",
-                  "mem start start", "until halt halt", "step start", "tick halt", "trap start", "byte start", "reg start", "mem start",
-                  "dis halt", "stop at stop", "stop at halt halt", "stop halt", "go halt", "stops halt", "help halt"):
+    yield session("mem start+8 5\nuntil halt-8\nstop at start+0xc\ngo", "0000000080000008: 23 80 a5 00 b7\n"
+                  "events 1 out - pc 0000000080000004 <start+4> running\nat 000000008000000c\n"
+                  "events 2 out 41 pc 000000008000000c <halt> running\n")
+    for typed in ("until stop 9", "mem stop 1", "dis stop 1", "mem Start 1", "mem star 1", "mem starts 1", "mem start: 1", "mem start+ 1",
+                  "mem start start", "until halt halt", "step start", "tick halt", "trap start", "byte start", "reg start", "mem stop+4",
+                  "dis halt+2", "stop at stop", "stop at halt halt", "stop halt", "go halt", "stops halt", "help halt"):
         yield session(typed + "\nmem start 1", "fault B2\n0000000080000000: b7\n")
     yield session("start 1\nhalt", "fault B1\nfault B1\n")
     yield "# of a name that stands twice the first address counts; a number is a number beside any labels"
@@ -72,7 +75,9 @@ def debugged(table):
     yield session("origin first\norigin 0x80000000\norigin a2\norigin ca2\nlost first\norigin mtdc\nchanged first 2", "".join([
         image_line, image_line, register_line, register_line, "no tag was lost at 0000000080000000 <a2>\n",
         f"opening state: mtdc {integer(0)}\n", "events 2 out - pc 0000000080000008 <a2+8> running\n"]), named)
-    for typed in ("origin halt", "lost halt", "changed halt 1", "origin second", "changed first", "origin first+16", "back first",
+    yield session("origin first+0\nlost halt-12\nlost halt+4", image_line + "no tag was lost at 0000000080000000 <a2>\n"
+                  "no tag was lost at 0000000080000010 <mtdc>\n", named)
+    for typed in ("origin halt", "lost halt", "changed halt 1", "origin second", "changed first", "origin first+8", "back first",
                   "ago first"):
         yield session(typed + "\nmem first 1", "fault B2\n0000000080000000: b7\n", named)
     yield session("origin after\nlost after\nchanged after 1\nago", "fault B3\nfault B3\nfault B3\nevents 0\n", named)
@@ -167,7 +172,8 @@ def reached():
     yield session(LABELS, "may send", "may halt", "may system", "may timer", "may hold 0")
     yield "# a question takes a label where it takes an address"
     yield session(MORE_LABELS, "may load table 1", "may store second 1", "may store table 4096", "may execute first 1",
-                  "may learn after 4096", "may load table 1 through doors", "may store after 4096 through doors")
-    for typed in ("may load tabel 1", "may load table+4 1", "may load table", "may load table table", "may hold table", "may table 1",
+                  "may learn after 4096", "may load table 1 through doors", "may store after 4096 through doors", "may store first+4 1",
+                  "may learn after-0x1000 8 through doors")
+    for typed in ("may load tabel 1", "may load table+ 1", "may load table", "may load table table", "may hold table", "may table 1",
                   "reach table"):
         yield asked(LABELS, typed, "fault B2\n")

@@ -4,6 +4,7 @@ A program gives up root: it keeps a PCC for its own code and what else it is abo
 """
 
 from collections import Counter
+from types import SimpleNamespace
 
 from cases.conversations import STATE, said
 from model import reach
@@ -13,7 +14,7 @@ from model.listings import named_address
 from model.names import CAPABILITY_NAMES, SPECIALS
 from model.origins import fields
 from model.rights import ACCESS_SYSTEM_REGISTERS, ALL, SEAL, SENTRY, STORE, UNSEAL, UNSEALED, letters
-from model.sessions import Session
+from model.sessions import Session, address
 from model.texts import Program
 from model.words import ONES, SPACE
 
@@ -103,7 +104,7 @@ def answered(machine, line, labels=()):
     asked = words.removesuffix(" through doors")
     _, question, *written = asked.split()
     named = {name: address for address, name in reversed(labels)}
-    numbers = [named[word] if word in named else int(word, 0) for word in written]
+    numbers = [address(SimpleNamespace(labels=named), word) for word in written]
     if question == "keep" and not numbers:
         numbers = [0, ONES]
     if asked == words:

@@ -11,9 +11,9 @@ COMMANDS = """\
 step N
 tick N
 byte B
-until ADDR N
-trap N
-go
+until ADDR [N]
+trap [N]
+go [N]
 changed R|ADDR N
 back N
 ago
@@ -26,17 +26,25 @@ regs
 scr
 csr
 caps
-mem ADDR LEN
-dis ADDR N
+mem ADDR [LEN]
+dis [ADDR [N]]
 why
 reach [members|dot|doors]
 may store|load|execute|learn ADDR LEN [through doors]
 may keep [ADDR LEN] [through doors]
 may send|halt|system|timer [through doors]
 may hold TYPE [through doors]
-help [B1|B2|B3|B4]
+help [COMMAND|B1|B2|B3|B4]
 quit
 """
+
+# The example of each that `help` shows beside its operands, where that isn't its name.
+EXAMPLES = {
+    "step": "step 100", "tick": "tick 1", "byte": "byte 0x41", "until": "until 0x80000010", "go": "go 5000000",
+    "changed": "changed ca0 1000", "back": "back 1", "origin": "origin ca0", "lost": "lost ca0", "stop": "stop at 0x80000010",
+    "reg": "reg ca0", "mem": "mem 0x80000000 64", "dis": "dis 0x80000000 4", "reach": "reach doors", "may": "may store 0x80000000 8",
+    "help": "help stop",
+}
 
 # What the codes of refusals mean.
 CODES = {
@@ -57,22 +65,27 @@ REFUSED = [
     ("B2", [
         "step -1", "step -0", "step 00", "step +1", "step 0X1", "step 0x", "step 1,", "step 1.0", "step 1 # one", "step 0xf4241",
         "step 18446744073709551616", "step 99999999999999999999999999", "tick", "tick 0", "tick -1", "tick 1 1", "tick x",
-        "tick 0xf4241", "byte", "byte -1", "byte 0x100", "byte 1 2", "byte A", "byte 'A'", "until", "until 0x80000004",
+        "tick 0xf4241", "byte", "byte -1", "byte 0x100", "byte 1 2", "byte A", "byte 'A'", "until", "until x",
         "until 0x80000004 0", "until 0x80000004 1 1", "until -1 1", "until 18446744073709551616 1", "until 0x80000004 0xf4241",
-        "until x 1", "until . 1", "trap", "trap 0", "trap -1", "trap 1 1", "trap x", "trap 0xf4241", "trap 0x80000004 1", "reg",
+        "until x 1", "until . 1", "until .+4", "until 4+4", "until x+4", "trap 0", "trap -1", "trap 1 1", "trap x", "trap 0xf4241",
+        "trap 0x80000004 1", "reg",
         "reg a0 a1", "reg a0,", "reg 10", "reg X1", "reg A0", "reg x01", "reg c32", "reg x-1", "reg s12", "reg t7",
-        "reg a8", "reg czero", "reg cx5", "reg cc5", "reg null", "reg pcc", "reg ddc", "reg mstatus", "reg c", "reg x", "regs a0",
-        "scr pcc", "csr mstatus", "caps 1", "why 1", "help 1", "help step", "help B9", "help b1", "help B", "help B1 B2", "help B2 1",
-        "help fault", "go 5", "go 0x80000004", "stop", "stop at", "stop at nolabel", "stop at 1 2", "stop at -1",
+        "reg a8", "reg czero", "reg cx5", "reg cc5", "reg null", "reg PCC", "reg pcc ddc", "reg cpcc", "reg mscratch", "reg mstatus",
+        "reg c", "reg x", "regs a0",
+        "scr pcc", "csr mstatus", "caps 1", "why 1", "help 1", "help steps", "help step 1", "help Step", "help #", "help help stop",
+        "help B9", "help b1", "help B", "help B1 B2", "help B2 1",
+        "help fault", "go 0", "go -1", "go x", "go 1 1", "go 1000000000001", "go 0xffffffffffffffffff", "stop", "stop at",
+        "stop at nolabel", "stop at 1 2", "stop at -1",
         "stop at 0x10000000000000000", "stop trap 1", "stop off 1", "stop 0x80000004", "stop on", "stop At 4", "stop traps", "stops 1",
-        "stops off", "quit 0", "mem", "mem 0x80000000", "mem 0x80000000 0", "mem 0x80000000 0x1001", "mem 0x80000000 1 1",
+        "stops off", "quit 0", "mem", "mem x", "mem 0x80000000 0", "mem 0x80000000 0x1001", "mem 0x80000000 1 1",
         "mem 0x80000000 -1", "mem -1 1", "mem 0x10000000000000000 1", "mem 18446744073709551616 1", "mem 0 0", "mem 0 4097",
-        "mem .text 1", "dis", "dis 0x80000000",
+        "mem .text 1", "dis x", "dis 0x80000002",
         "dis 0x80000000 0", "dis 0x80000000 0x401", "dis 0x80000000 1 1", "dis 0x80000001 1", "dis 0x80000003 1", "dis 2 1", "dis 1 1025",
         "dis 0xfffffffffffffffd 1", "dis 0x10000000000000000 1", "dis -4 1", "reg ca0\x0c", *reaching.REFUSED_OPERANDS,
     ]),
     ("B1", [
-        "", " ", "cap", "caps1", "CAPS", "STEP 1", "Quit", "quit#", "#", "step,1", "steps 1", "ste 1", "reg\x0bca0", "regs\0", "step\x7f1",
+        "", " ", "cap", "caps1", "CAPS", "STEP 1", "Quit", "quit#", "step#", "step,1", "steps 1", "ste 1", "reg\x0bca0", "regs\0",
+        "step\x7f1",
         "\t \r", *reaching.REFUSED_NAMES,
     ]),
     ("B2", [
@@ -204,6 +217,80 @@ STOPPED = [
     modelled("On a schedule without a stop, up to the halt", ECHO_THREE, ["step 3", "go", "go", "step 1"], (11, 4, b"ABC")),
 ]
 
+# The handler, 24 bytes on, goes on after the instruction that trapped; for the second call MTCC is 0, where nothing can be fetched.
+HANDLED = ("auipc a0, 0x0; addi a0, a0, 24; csrrw zero, mtvec, a0; ecall; csrrw zero, mtvec, zero; ecall; csrrs a1, mepc, zero; "
+           "addi a1, a1, 4; csrrw zero, mepc, a1; mret")
+# Traps into RAM's last word, and into what lies after it.
+HANDLED_AT_THE_END = "lui a0, 0x80001; slli a0, a0, 32; srli a0, a0, 32; addi a0, a0, {}; csrrw zero, mtvec, a0; ecall"
+# Goes on for 1000006 steps, and halts.
+LONG_LOOP = "lui a1, 0x7a; addi a1, a1, 289; loop: addi a1, a1, -1; bne a1, zero, loop; lui a2, 0x100; sd zero, 0(a2)"
+
+UNBOUNDED = [
+    modelled("`go` ends before a trap whose entry can't be fetched, and says so; then it gives one step wherever it is", SENDS, [
+        "go", "go", "go", "reg pcc", "csr"]),
+    modelled("One that is handled goes on", HANDLED, ["go", "csr", "go", "go 3"]),
+    modelled("A stop that holds there says nothing more", SENDS, [
+        "stop trap", "go", "go", "stop off", "stop at 0x8000001c", "go", "stop off", "stop at 0x80000018", "go"]),
+    modelled("A stop is met there from another one on", SENDS, [
+        "step 17", "stop at 0x8000001c", "go", "stop off", "stop trap", "go", "go"]),
+    modelled("As many steps as are asked for; the last of them may lead there", SENDS, [
+        "go 1", "go 17", "go 1", "go 1", "go 1000000000000", "go 0xe8d4a51000"]),
+    modelled("An entry in RAM's last word is fetched", HANDLED_AT_THE_END.format(-4), ["go 20", "csr", "go 1"]),
+    modelled("And one after RAM's last byte isn't", HANDLED_AT_THE_END.format(0), ["go", "step 1", "csr"]),
+    modelled("An interrupt whose entry can't be fetched ends it too", AWAITS_TICK, ["go", "step 1", "go 1"], (1000, 5, b"")),
+    modelled("A capability that may not be executed is no entry",
+             "cspecialrw ca0, mtcc, cnull; addi a1, zero, -3; candperm ca0, ca0, a1; cspecialrw cnull, mtcc, ca0; ecall", ["go", "go"]),
+    modelled("A halted machine says nothing", FIRST_IMAGE, ["go 4", "go 1", "go 1"]),
+    modelled("A halt before a word that is no instruction", FIRST_IMAGE + "; .word 0", ["go", "go"]),
+    modelled("`trap` and `until` without a number go on up to a trap and an address, or to the halt", SENDS, [
+        "until 0x80000018", "until 0x80000018", "trap", "trap", "csr"]),
+    modelled("The same on a schedule", ECHO_THREE, ["until 0x80000014", "trap", "until 0"], (11, 4, b"ABC")),
+    ("They are not bound by what a number may say", LONG_LOOP, "> until 0x80000010\nevents 1000004 out - pc 0000000080000010 running\n"
+     "> go 2\nevents 2 out - pc 0000000080000018 halted 0"),
+    modelled("Up to the halt", FIRST_IMAGE, ["trap", "until 0x80000000"]),
+]
+
+SHOWN_UNASKED = [
+    modelled("Without a number `mem` shows 16 bytes and `dis` 8 words, and without an address `dis` those at PCC", FIRST_IMAGE, [
+        "mem 0x80000000", "mem 0x80000001", "mem 0x80000ff0", "mem 0x80000ff1", "dis 0x80000000", "dis 0x80000fe0", "dis 0x80000fe4",
+        "dis", "step 1", "dis", "step 5", "dis"]),
+    modelled("Nothing is shown at a PCC outside RAM", "", ["dis", "step 1", "dis", "mem 0"]),
+    modelled("Up to RAM's last word", ".entry 0x80000fe0; addi a0, zero, 1", ["dis", "step 1", "dis"]),
+    modelled("In the mode of PCC", ".mode 1; csb a0, 0(ca1); clc ca0, 0(ca1)", ["dis", "dis 0x80000004"]),
+    modelled("The special capability registers by their names", "cspecialrw ca0, pcc, cnull; csetboundsimm ca0, ca0, 64; "
+             "cspecialrw cnull, mscratchc, ca0; cspecialrw cnull, mtdc, ca0; csrrwi zero, mtvec, 4; ecall", [
+                 "reg pcc", "step 6", *(f"reg {name}" for name in ("pcc", "ddc", "mtcc", "mtdc", "mscratchc", "mepcc"))]),
+    modelled("A line that begins with `#` is answered with nothing", FIRST_IMAGE, [
+        "# a comment", "#", " \t# step 1", "#step 1", "##", "step 1", "# quit", "#" + 254 * "x", "#" + 255 * "x", "reg a1"]),
+]
+
+# Labels of the first image and of places around it.
+PLACES = {"start": 0x80000000, "send": 0x80000008, "halt": 0x8000000c, "zero_page": 0, "top.1": (1 << 64) - 1, "_last": 0x80000fff}
+BESIDE_LABELS = [
+    modelled("A label with a number added to it or taken away from it is an address", FIRST_IMAGE, [
+        "stop at start+8", "stop at halt-4", "stop at halt-0xc", "stop at start+0xFFC", "go", "stop off", "until start+12 10",
+        "until halt+4", "mem start+4", "mem send-8 4", "dis halt-4 1", "dis start+4 2", "dis halt-1 1", "mem _last+0 1", "mem _last+1 1",
+        "mem zero_page+0x80000000 4", "mem top.1-0xffffffff7fffffff 1", "mem start+-0 1", "mem send+-8 1", "mem start--8 1"],
+        labels=PLACES),
+    modelled("It doesn't go round", FIRST_IMAGE, [
+        "until top.1+0 1", "until top.1+1 1", "until zero_page+0 1", "until zero_page-1 1", "until zero_page+0xffffffffffffffff 1",
+        "until zero_page+0x10000000000000000 1", "until start-0x8000000000000000 1", "until start--9223372036854775808 1",
+        "until start--9223372036854775809 1", "until start-2147483648 1", "until start-2147483649 1"], labels=PLACES),
+    modelled("Of other forms none is", FIRST_IMAGE, [
+        "mem start+", "mem start-", "mem +4", "mem start+send", "mem start+4+4", "mem start+0x", "mem start+x", "mem start +4",
+        "mem start+ 4", "mem nowhere+4", "mem start*4", "mem 4+start", "mem start+4a", "reg start+4", "step start+4", "mem start start+4",
+        "mem Start+4", "stop at start+"], labels=PLACES),
+]
+
+
+def told_of_commands():
+    """What `help` says of each command: its operands, and an example."""
+    usages = {}
+    for line in COMMANDS.splitlines():
+        usages.setdefault(line.split()[0], []).append(line)
+    return [(f"help {name}", "\n".join([*lines, f"for example: {EXAMPLES.get(name, name)}"])) for name, lines in usages.items()]
+
+
 # What is typed at a machine of the first image.
 STEPPED = [
     "until 0x80000000 5", "mem 0x80000000 4", "mem 0x80000002 18", "dis 0x80000000 1", "dis 0x80000008 2", " \tstep\r5 ", "step 1000000",
@@ -263,7 +350,9 @@ def cases():
     yield from conversation(*modelled("lines of 255 bytes and of 256", FIRST_IMAGE, LONG))
     yield from conversation("what the codes of refusals mean", FIRST_IMAGE,
                             replies([(f"help {code}", meaning) for code, meaning in CODES.items()] + [(" help\tB2 ", CODES["B2"])]))
-    for given in (*CONVERSATIONS, *REPLAYED, *STOPPED, *explanations.CONVERSATIONS, *reaching.CONVERSATIONS, *shown()):
+    yield from conversation("what each command is told of", FIRST_IMAGE, replies(told_of_commands()))
+    for given in (*CONVERSATIONS, *REPLAYED, *STOPPED, *UNBOUNDED, *SHOWN_UNASKED, *BESIDE_LABELS, *explanations.CONVERSATIONS,
+                  *reaching.CONVERSATIONS, *shown()):
         yield from conversation(*given)
     for about, text in TALKS:
         yield from conversation(about, RECEIVES, text)

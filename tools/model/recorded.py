@@ -63,12 +63,17 @@ def trap_text(cause, mtval):
     return f"{taken} {CAUSES[cause]}, {violation}mcause {cause:016x}, mtval {mtval:016x}"
 
 
+# Rows that write no register, whatever stands in the place of rd.
+WRITES_NONE = {*OF_BRANCH, *STORES, "sc", "cinvoke", "fence"}
+
+
 class Done:
     """An instruction that was done without a trap, between two states; `old` is what the control and status register held that it has."""
 
     def __init__(self, before, after, insn, old):
         self.before, self.after, self.insn, self.old = before, after, insn, old
         self.row, _, self.form = insn.row.partition(".")
+        self.rd = 0 if self.row in WRITES_NONE else insn.rd
         self.one, self.two = before.registers[insn.rs1], before.registers[insn.rs2]
         self.place = (self.one[1] + insn.imm) % SPACE
         self.mode = flag(before.pcc)
@@ -84,9 +89,9 @@ class Done:
 
     def writes(self):
         """The makings by the places that were written."""
-        found, rd = self.of_others(), self.insn.rd
-        if rd and self.row not in OF_BRANCH and self.row not in STORES and self.row not in ("sc", "cinvoke"):
-            found[REGISTER, rd] = self.of_register()
+        found = self.of_others()
+        if self.rd:
+            found[REGISTER, self.rd] = self.of_register()
         return found
 
     def of_others(self):
@@ -133,8 +138,8 @@ class Done:
 
     def effect(self):
         """What is said of it."""
-        rd, target = self.insn.rd, self.after.pcc[1]
-        given = f"{CAPABILITY_NAMES[rd]} = {fields(self.after.registers[rd])}" if rd else ""
+        target = self.after.pcc[1]
+        given = f"{CAPABILITY_NAMES[self.rd]} = {fields(self.after.registers[self.rd])}" if self.rd else ""
         first = given and given + ", "
         if self.row in STORES or self.row == "sc":
             return self.stored()

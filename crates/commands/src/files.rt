@@ -192,10 +192,10 @@ pub fn finish_file<'a, F: Folder>(
 ) -> Result<(), ProgramFault<'a>>
     ensures ok { OnOk result (Finishes name.entry.now (F.Made.contents file) bytes.now (F.files folder.old) (F.files folder.new)) }
 {
-    let mut sink = Writing::new(file);
-    match write_all(&mut sink, bytes) {
+    let mut grown = Writing::new(file);
+    match write_all(&mut grown, bytes) {
         Ok(()) => {
-            folder.close(name, sink.into_inner());
+            folder.close(name, grown.into_inner());
             Ok(())
         }
         Err(_) => Err(ProgramFault::CutShort(name)),

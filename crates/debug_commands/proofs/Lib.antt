@@ -1,2 +1,3 @@
 mod Labels
+mod Offsets
 mod Specials

@@ -1,4 +1,5 @@
 -- What to read
+pub mod Address
 pub mod Command
 -- Inner words
 pub mod Limits

@@ -36,12 +36,13 @@ pub enum Events {
     Ticks(u64),
     /// One byte on the console's line.
     Byte(u8),
-    /// Steps until the machine is where they stop, at most so many, 1 to 1000000.
+    /// Steps until the machine is where they stop, at most so many, 1 to 1000000000.
     Until { stop: Stop, most: u64 },
     /// Events of the session's steps until what a place holds differs, at most so many, 1 to 1000000.
     Changed { place: Place, most: u64 },
-    /// Steps until the machine is at a stop of the session, the first of them wherever it is.
-    Go,
+    /// Steps until the machine is at a stop of the session or before a trap whose entry can't be fetched, the first of them wherever it is,
+    /// at most so many, 1 to 1000000000000.
+    Go { most: u64 },
 }
 
 /// What is made of the stops of a session.
@@ -58,6 +59,8 @@ pub enum SetStops {
 pub enum View {
     /// A register, by its number: 0 to 31.
     Register(u8),
+    /// A special capability register, by its number.
+    SpecialRegister(u8),
     /// All registers.
     Registers,
     /// The special capability registers.
@@ -70,6 +73,8 @@ pub enum View {
     Memory { address: u64, count: u64 },
     /// So many words from an address, as instructions: 1 to 1024, from a multiple of 4 on. They may lie outside RAM.
     Words { address: u64, count: u64 },
+    /// So many words from PCC's address, as instructions: 1 to 1024. They may lie outside RAM.
+    WordsAtPcc(u64),
     /// What the next step will do, and why.
     Why,
     /// What the code that runs from here on can reach, in sum.
@@ -84,8 +89,12 @@ pub enum View {
     Stops,
     /// The commands with their operands.
     Help,
+    /// A command's operands and an example, by the number of its line in the table.
+    HelpOn(u8),
     /// What a refusal's code means.
     Code(DebugFault),
+    /// Nothing.
+    Nothing,
 }
 
 /// What a command asks of the events that a session was given.

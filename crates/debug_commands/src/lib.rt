@@ -1,6 +1,7 @@
 //! The debugger's commands as they are written: what a typed line asks for, over a table of labels.
 #![tactic(auto)]
 
+mod address;
 mod command;
 mod fault;
 pub mod laws;
@@ -9,4 +10,4 @@ mod table;
 
 pub use command::{Command, Events, Recall, SetStops, Stop, View};
 pub use fault::DebugFault;
-pub use table::{command_of, help_text};
+pub use table::{about_line, command_of, help_text};

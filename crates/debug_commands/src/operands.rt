@@ -1,9 +1,15 @@
 //! Operands of commands as they are written.
-ghost use Rattle.std.specs.Prelude.{◌≡◌, ◌≤◌, ◌<◌, ◌%◌, ◌^◌, IfOk, IfSome};
+ghost use Rattle.std.specs.Prelude.{◌≡◌, ◌⊎◌, ◌≤◌, ◌<◌, ◌%◌, ◌^◌, Some, IfOk, IfSome};
+ghost use Rattle.asm_names.specs.Registers.{register_named};
+ghost use Rattle.asm_names.specs.SpecialNames.{scr_named};
+ghost use Rattle.debug_commands.specs.Address.{address_at};
 ghost use Rattle.debug_commands.specs.Command as spec;
+ghost use Rattle.debug_commands.specs.Limits.{IsShownWithinLimits};
 ghost use Rattle.asm_lines.specs.Words.{words_of};
 ghost use Rattle.origins.specs.Places.{IsHolder};
 
+use crate::address::address_at;
+use crate::command::View;
 use crate::fault::DebugFault;
 use asm_lines::{number_between, split_word};
 use asm_names::{register_named, scr_named};
@@ -28,6 +34,22 @@ pub(crate) fn one_number(operands: &[u8], low: u64, high: u64) -> Result<u64, De
     number_between(word, low, high).ok_or(DebugFault::B2)
 }
 
+/// The only operand, a number of `low` to `high`, or `otherwise` where there is none, or B2.
+pub(crate) fn number_or(
+    operands: &[u8],
+    otherwise: u64,
+    low: u64,
+    high: u64,
+) -> Result<u64, DebugFault>
+    ensures value { result ≡ spec.number_or otherwise low high (words_of operands.now) }
+    ensures bound { IfOk result (λ n. (n ≤ high) ⊎ (n ≡ otherwise)) }
+{
+    if split_word(operands).is_none() {
+        return Ok(otherwise);
+    }
+    one_number(operands, low, high)
+}
+
 /// The only operand, an address, or B2.
 pub(crate) fn one_address(symbols: &Symbols, operands: &[u8]) -> Result<u64, DebugFault>
     ensures { result ≡ spec.one_address symbols.now (words_of operands.now) }
@@ -38,43 +60,74 @@ pub(crate) fn one_address(symbols: &Symbols, operands: &[u8]) -> Result<u64, Deb
     if split_word(rest).is_some() {
         return Err(DebugFault::B2);
     }
-    symbols.address_in(word).ok_or(DebugFault::B2)
+    address_at(symbols, word).ok_or(DebugFault::B2)
 }
 
-/// The only two operands, an address that is a multiple of `multiple` and a number of 1 to `high`, or B2.
-pub(crate) fn address_and_number(
+/// An address that is a multiple of `multiple`, and a number.
+fn placed(
+    symbols: &Symbols,
+    place: &[u8],
+    multiple: u64,
+    number: Option<u64>,
+) -> Result<(u64, u64), DebugFault>
+    requires { 0 < multiple }
+    ensures value { result ≡ spec.placed multiple (address_at symbols.now place.now) number }
+    ensures number { IfOk result (λ p. number ≡ Some p.1) }
+    ensures aligned { IfOk result (λ p. p.0 % multiple ≡ 0) }
+{
+    let Some(address) = address_at(symbols, place) else {
+        return Err(DebugFault::B2);
+    };
+    match number {
+        Some(number) if address % multiple == 0 => Ok((address, number)),
+        _ => Err(DebugFault::B2),
+    }
+}
+
+/// The only two operands, an address that is a multiple of `multiple` and a number of 1 to `high`, or `otherwise` where there is no number,
+/// or B2.
+pub(crate) fn address_and_number_or(
     symbols: &Symbols,
     operands: &[u8],
+    otherwise: u64,
     multiple: u64,
     high: u64,
 ) -> Result<(u64, u64), DebugFault>
     requires { 0 < multiple }
-    ensures value { result ≡ spec.address_and_number symbols.now multiple high (words_of operands.now) }
-    ensures bound { IfOk result (λ p. p.1 ≤ high) }
+    ensures value { result ≡ spec.address_and_number_or symbols.now otherwise multiple high (words_of operands.now) }
+    ensures bound { IfOk result (λ p. (p.1 ≤ high) ⊎ (p.1 ≡ otherwise)) }
     ensures aligned { IfOk result (λ p. p.0 % multiple ≡ 0) }
 {
     let Some((place, rest)) = split_word(operands) else {
         return Err(DebugFault::B2);
     };
     let Some((count, rest)) = split_word(rest) else {
-        return Err(DebugFault::B2);
+        return placed(symbols, place, multiple, Some(otherwise));
     };
     if split_word(rest).is_some() {
         return Err(DebugFault::B2);
     }
-    let Some(address) = symbols.address_in(place) else {
-        return Err(DebugFault::B2);
-    };
-    match number_between(count, 1, high) {
-        Some(count) if address % multiple == 0 => Ok((address, count)),
-        _ => Err(DebugFault::B2),
-    }
+    placed(symbols, place, multiple, number_between(count, 1, high))
 }
 
-/// The only operand, a register's name, or B2.
-pub(crate) fn one_register(operands: &[u8]) -> Result<u8, DebugFault>
+/// What a text names: a register, or a special capability register.
+fn register_in(text: &[u8]) -> Option<View>
+    ensures value { result ≡ spec.register_shown (register_named text.now) (scr_named text.now) }
+    ensures limits { IfSome result IsShownWithinLimits }
+{
+    if let Some(number) = register_named(text) {
+        return Some(View::Register(number));
+    }
+    if let Some(number) = scr_named(text) {
+        return Some(View::SpecialRegister(number));
+    }
+    None
+}
+
+/// The only operand, the name of a register or of a special capability register, or B2.
+pub(crate) fn one_register(operands: &[u8]) -> Result<View, DebugFault>
     ensures value { result ≡ spec.one_register (words_of operands.now) }
-    ensures bound { IfOk result (λ n. n < 32) }
+    ensures limits { IfOk result IsShownWithinLimits }
 {
     let Some((word, rest)) = split_word(operands) else {
         return Err(DebugFault::B2);
@@ -82,7 +135,7 @@ pub(crate) fn one_register(operands: &[u8]) -> Result<u8, DebugFault>
     if split_word(rest).is_some() {
         return Err(DebugFault::B2);
     }
-    register_named(word).ok_or(DebugFault::B2)
+    register_in(word).ok_or(DebugFault::B2)
 }
 
 /// The granule at an address, a multiple of 16.
@@ -108,7 +161,7 @@ fn holder_in(symbols: &Symbols, text: &[u8]) -> Option<Place>
     if let Some(number) = scr_named(text) {
         return Some(Place::Special(number));
     }
-    granule_at(symbols.address_in(text)?)
+    granule_at(address_at(symbols, text)?)
 }
 
 /// The only operand, what holds a capability, or B2.
@@ -200,7 +253,7 @@ pub(crate) fn bytes_and_horizon(
     let Some((count, rest)) = split_word(rest) else {
         return Err(DebugFault::B2);
     };
-    match (symbols.address_in(place), number_between(count, 1, high)) {
+    match (address_at(symbols, place), number_between(count, 1, high)) {
         (Some(address), Some(count)) => Ok(((address, count), horizon(rest)?)),
         _ => Err(DebugFault::B2),
     }

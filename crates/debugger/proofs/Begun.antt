@@ -42,7 +42,7 @@ given_few (Steps n) count few = few
 given_few (Ticks n) count few = few
 given_few (Byte b) count few = omega arith
 given_few (Until stop n) count few = few
-given_few Go count few = few
+given_few (Go n) count few = few
 given_few (Changed place n) count few = few
 
 pub kept_begun : (past : Option PastState) (events : Events) (es : List Event) (count : ℕ) → count ≡ length es

@@ -8,9 +8,8 @@ use Rattle.steps.specs.Event.{after, sent}
 use Rattle.steps.specs.State.{State}
 use Rattle.machine.specs.Run.{run_after}
 use Rattle.schedules.specs.Schedule.{is_halted}
-use Rattle.debug_commands.specs.declared.command.Stop.{Stop}
 use Rattle.past.specs.Replay.{ReplayState, byte_due, byte_events, is_tick_due}
-use Rattle.debugger.specs.Stepping.{counted_steps, is_any_stop, is_at_end, next_step, ready, step_events, steps_while}
+use Rattle.debugger.specs.Stepping.{Ends, counted_steps, is_at_end, is_end, next_step, nowhere, ready, step_events, steps_while}
 
 one_byte : (due : Option ℕ) → length (map Byte (option_to_list due)) ≤ 1
 one_byte None = omega arith
@@ -34,7 +33,7 @@ turn_few byte steps rest n false one two few =
     let more = length-append steps rest in
     omega (arith, sum, more, one, two, few)
 
-pub steps_few : (first later : List Stop) (replay : Option ReplayState) (n room : ℕ) (s : State)
+pub steps_few : (first later : Ends) (replay : Option ReplayState) (n room : ℕ) (s : State)
     → length (steps_while first later replay n room s) ≤ 3 * n
 steps_few first later replay zero room s = omega arith
 steps_few first later replay (suc n) room s =
@@ -43,7 +42,7 @@ steps_few first later replay (suc n) room s =
     steps_while later later (next_step replay) n (room - length (option_to_list (sent Step here)))
     (run_after (step_events replay here) here) in
     if_few (is_at_end replay room s) _ (3 * suc n)
-    (turn_few (byte_events replay) (step_events replay here) rest n (is_any_stop first here) (one_byte (byte_due replay))
+    (turn_few (byte_events replay) (step_events replay here) rest n (is_end first here) (one_byte (byte_due replay))
     (step_and_tick (is_tick_due replay && not (is_halted (after Step here))))
     (steps_few later later (next_step replay) n (room - length (option_to_list (sent Step here)))
     (run_after (step_events replay here) here)))
@@ -58,4 +57,4 @@ pub counted_few : (replay : Option ReplayState) (n : ℕ) (s : State) → length
 counted_few None n s =
     let all = length-replicate n Step in
     omega (arith, all)
-counted_few (Some r) n s = steps_few [] [] (Some r) n n s
+counted_few (Some r) n s = steps_few nowhere nowhere (Some r) n n s

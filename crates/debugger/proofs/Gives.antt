@@ -16,7 +16,7 @@ use Rattle.past.specs.Position.{Position, after_byte_or_step, at, byte_or_step, 
 use Rattle.past.specs.Replay.{ReplayState, byte_due, replayed}
 use Rattle.schedules.specs.Schedule.{is_halted}
 use Rattle.debugger.specs.Reply.{are_scheduled, given, owed_after, owed_events, own_steps, replay_after, with_tick}
-use Rattle.debugger.specs.Stepping.{holds, is_at_end, is_done, most_gone, most_sent, steps_holding, steps_while}
+use Rattle.debugger.specs.Stepping.{Ends, at_stops, holds, is_at_end, is_done, most_sent, nowhere, of_go, steps_holding, steps_while}
 use Rattle.debugger.proofs.Changes.{holding_is_stream}
 use Rattle.debugger.proofs.Streams.{IsStream, counted_are_streams, steps_are_streams}
 
@@ -26,11 +26,12 @@ pub own_are_streams : (events : Events) (replay : Option ReplayState) (stops : L
     → IsStream (own_steps events replay stops s) replay s
 unfolding own_steps
 own_are_streams (Steps n) replay stops s = counted_are_streams replay n s
-own_are_streams (Until stop n) replay stops s = steps_are_streams (stop ∷ []) (stop ∷ []) replay n n s
-own_are_streams Go replay stops s = steps_are_streams [] stops replay most_gone most_sent s
-own_are_streams (Ticks n) replay stops s = steps_are_streams [] [] replay 0 0 s
-own_are_streams (Byte b) replay stops s = steps_are_streams [] [] replay 0 0 s
-own_are_streams (Changed place n) replay stops s = steps_are_streams [] [] replay 0 0 s
+own_are_streams (Until stop n) replay stops s =
+    steps_are_streams (at_stops (stop ∷ [])) (at_stops (stop ∷ [])) replay n (most_sent n) s
+own_are_streams (Go n) replay stops s = steps_are_streams nowhere (of_go stops) replay n (most_sent n) s
+own_are_streams (Ticks n) replay stops s = steps_are_streams nowhere nowhere replay 0 0 s
+own_are_streams (Byte b) replay stops s = steps_are_streams nowhere nowhere replay 0 0 s
+own_are_streams (Changed place n) replay stops s = steps_are_streams nowhere nowhere replay 0 0 s
 
 -- ---- with the tick that is to come yet
 
@@ -70,7 +71,8 @@ goes (Steps n) replay owed stops s own =
     owed_stream owed replay _ (own_are_streams (Steps n) replay stops (run_after (owed_events owed) s)).events
 goes (Until stop n) replay owed stops s own =
     owed_stream owed replay _ (own_are_streams (Until stop n) replay stops (run_after (owed_events owed) s)).events
-goes Go replay owed stops s own = owed_stream owed replay _ (own_are_streams Go replay stops (run_after (owed_events owed) s)).events
+goes (Go n) replay owed stops s own =
+    owed_stream owed replay _ (own_are_streams (Go n) replay stops (run_after (owed_events owed) s)).events
 goes (Changed place n) replay owed stops s own = holding_is_stream place (held place s) n (at replay owed) s
 goes (Ticks n) replay owed stops s own = absurd (cc)
 goes (Byte b) replay owed stops s own = absurd (cc)
@@ -86,7 +88,7 @@ nothing : (es : List Event) (b : Bool) → b ≡ true → (if b then [] else es)
 nothing es true h = refl
 nothing es false h = absurd (cc)
 
-none_after_halt : (first later : List Stop) (replay : Option ReplayState) (n room : ℕ) (s : State) → is_halted s ≡ true
+none_after_halt : (first later : Ends) (replay : Option ReplayState) (n room : ℕ) (s : State) → is_halted s ≡ true
     → steps_while first later replay n room s ≡ []
 none_after_halt first later replay zero room s h = refl
 none_after_halt first later replay (suc n) room s h = nothing _ (is_at_end replay room s) (third _ _ (is_halted s) h)
@@ -104,9 +106,10 @@ none_held_after_halt place v (suc n) p s h =
 pub given_after_halt : (events : Events) (r : ReplayState) (stops : List Stop) (s : State) → are_scheduled events ≡ true
     → is_halted s ≡ true → given events (Some r) false stops s ≡ []
 unfolding given own_steps
-given_after_halt (Steps n) r stops s own h = none_after_halt [] [] (Some r) n n s h
-given_after_halt (Until stop n) r stops s own h = none_after_halt (stop ∷ []) (stop ∷ []) (Some r) n n s h
-given_after_halt Go r stops s own h = none_after_halt [] stops (Some r) most_gone most_sent s h
+given_after_halt (Steps n) r stops s own h = none_after_halt nowhere nowhere (Some r) n n s h
+given_after_halt (Until stop n) r stops s own h =
+    none_after_halt (at_stops (stop ∷ [])) (at_stops (stop ∷ [])) (Some r) n (most_sent n) s h
+given_after_halt (Go n) r stops s own h = none_after_halt nowhere (of_go stops) (Some r) n (most_sent n) s h
 given_after_halt (Changed place n) r stops s own h = none_held_after_halt place (held place s) n (at (Some r) false) s h
 given_after_halt (Ticks n) r stops s own h = absurd (cc)
 given_after_halt (Byte b) r stops s own h = absurd (cc)
@@ -158,7 +161,7 @@ held_replay place v n p s =
 abbrev pub are_own : Events → Bool
 are_own (Steps n) = true
 are_own (Until stop n) = true
-are_own Go = true
+are_own (Go n) = true
 are_own other = false
 
 pub other_own : (events : Events) → ((n : ℕ) → events ≡ Ticks n → ⊥) → ((b : ℕ) → events ≡ Byte b → ⊥)
@@ -169,14 +172,14 @@ other_own (Byte n) a b c = absurd (b n refl)
 other_own (Changed place n) a b c = absurd (c place n refl)
 other_own (Steps n) a b c = refl
 other_own (Until stop n) a b c = refl
-other_own Go a b c = refl
+other_own (Go n) a b c = refl
 
 pub own_given : (events : Events) (replay : Option ReplayState) (owed : Bool) (stops : List Stop) (s : State) → are_own events ≡ true
     → with_tick events replay owed stops s ≡ given events replay owed stops s
 unfolding given
 own_given (Steps n) replay owed stops s own = refl
 own_given (Until stop n) replay owed stops s own = refl
-own_given Go replay owed stops s own = refl
+own_given (Go n) replay owed stops s own = refl
 own_given (Ticks n) replay owed stops s own = absurd (cc)
 own_given (Byte b) replay owed stops s own = absurd (cc)
 own_given (Changed place n) replay owed stops s own = absurd (cc)
@@ -184,7 +187,7 @@ own_given (Changed place n) replay owed stops s own = absurd (cc)
 own_scheduled : (events : Events) → are_own events ≡ true → are_scheduled events ≡ true
 own_scheduled (Steps n) own = refl
 own_scheduled (Until stop n) own = refl
-own_scheduled Go own = refl
+own_scheduled (Go n) own = refl
 own_scheduled (Ticks n) own = absurd (cc)
 own_scheduled (Byte b) own = absurd (cc)
 own_scheduled (Changed place n) own = absurd (cc)

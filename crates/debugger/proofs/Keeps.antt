@@ -194,7 +194,7 @@ module _ (past : PastState) (replay : Option ReplayState) (owed : Bool) (s : Sta
   unfolding given replay_after owed_after
   keeps (Steps n) stops = kept (Steps n) _ (es_of (Steps n) stops) (own_kept (Steps n) stops refl)
   keeps (Until stop n) stops = kept (Until stop n) _ (es_of (Until stop n) stops) (own_kept (Until stop n) stops refl)
-  keeps Go stops = kept Go _ (es_of Go stops) (own_kept Go stops refl)
+  keeps (Go n) stops = kept (Go n) _ (es_of (Go n) stops) (own_kept (Go n) stops refl)
   keeps (Changed place n) stops = kept (Changed place n) _ (es_of (Changed place n) stops) (own_kept (Changed place n) stops refl)
   keeps (Ticks n) stops =
       kept (Ticks n) (gave.Ticks (length (replicate n event.Tick))) (replicate n event.Tick)

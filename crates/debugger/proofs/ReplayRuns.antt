@@ -12,7 +12,7 @@ use Rattle.debug_commands.specs.declared.command.Events.TheVariants.{Steps, Tick
 use Rattle.debug_commands.specs.declared.command.Stop.{Stop}
 use Rattle.debugger.specs.SessionState.{SessionState, session_with}
 use Rattle.past.specs.Replay.{ReplayState}
-use Rattle.debugger.specs.Stepping.{most_gone, most_sent, steps_while}
+use Rattle.debugger.specs.Stepping.{Ends, at_stops, most_sent, nowhere, of_go, steps_while}
 use Rattle.past.specs.Replay.{replayed}
 use Rattle.debugger.specs.Reply.{after_events, are_scheduled, given, given_in, owed_after, own_steps, replay_after, session_after}
 use Rattle.debugger.specs.Reply.{timeline_of}
@@ -23,16 +23,16 @@ use Rattle.debugger.proofs.Replays.{done-counts, follows, input-stays, schedule-
 -- the steps of a command on a schedule
 abbrev IsStepping : List Event → ReplayState → State → Type 0
 IsStepping events r s =
-    (first : List Stop) × (later : List Stop) × (n : ℕ) × (room : ℕ) × (events ≡ steps_while first later (Some r) n room s)
+    (first : Ends) × (later : Ends) × (n : ℕ) × (room : ℕ) × (events ≡ steps_while first later (Some r) n room s)
 
 is-stepping : (events : Events) (replay : Option ReplayState) (r : ReplayState) (stops : List Stop) (s : State)
     → are_whole_steps events ≡ true → replay ≡ Some r → IsStepping (given events replay false stops s) r s
 unfolding given own_steps
-is-stepping (Steps n) replay r stops s whole is = ([], [], n, n, rw is refl)
+is-stepping (Steps n) replay r stops s whole is = (nowhere, nowhere, n, n, rw is refl)
 is-stepping (Ticks n) replay r stops s whole is = absurd (cc)
 is-stepping (Byte b) replay r stops s whole is = absurd (cc)
-is-stepping (Until stop n) replay r stops s whole is = (stop ∷ [], stop ∷ [], n, n, rw is refl)
-is-stepping Go replay r stops s whole is = ([], stops, most_gone, most_sent, rw is refl)
+is-stepping (Until stop n) replay r stops s whole is = (at_stops (stop ∷ []), at_stops (stop ∷ []), n, most_sent n, rw is refl)
+is-stepping (Go n) replay r stops s whole is = (nowhere, of_go stops, n, most_sent n, rw is refl)
 is-stepping (Changed place n) replay r stops s whole is = absurd (cc)
 
 is-scheduled : (events : Events) → are_whole_steps events ≡ true → are_scheduled events ≡ true
@@ -40,7 +40,7 @@ is-scheduled (Steps n) whole = refl
 is-scheduled (Ticks n) whole = absurd (cc)
 is-scheduled (Byte b) whole = absurd (cc)
 is-scheduled (Until stop n) whole = refl
-is-scheduled Go whole = refl
+is-scheduled (Go n) whole = refl
 is-scheduled (Changed place n) whole = absurd (cc)
 
 -- after whole steps no tick is to come yet
@@ -51,7 +51,7 @@ none-owed (Steps n) replay stops s whole = not_owed (own_are_streams (Steps n) r
 none-owed (Ticks n) replay stops s whole = absurd (cc)
 none-owed (Byte b) replay stops s whole = absurd (cc)
 none-owed (Until stop n) replay stops s whole = not_owed (own_are_streams (Until stop n) replay stops s)
-none-owed Go replay stops s whole = not_owed (own_are_streams Go replay stops s)
+none-owed (Go n) replay stops s whole = not_owed (own_are_streams (Go n) replay stops s)
 none-owed (Changed place n) replay stops s whole = absurd (cc)
 
 stands-after : (events : Events) (es : List Event) (replay : Option ReplayState) (r : ReplayState) → are_scheduled events ≡ true

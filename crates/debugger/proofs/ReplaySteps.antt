@@ -9,9 +9,8 @@ use Rattle.steps.specs.State.{State}
 use Rattle.steps.specs.Event.{after, sent}
 use Rattle.machine.specs.Run.{run_after, run_sent}
 use Rattle.schedules.proofs.Events.{run_after-append, run_sent-append, run_sent-brought}
-use Rattle.debug_commands.specs.declared.command.Stop.{Stop}
 use Rattle.past.specs.Replay.{ReplayState}
-use Rattle.debugger.specs.Stepping.{is_any_stop, is_at_end, step_events, steps_while}
+use Rattle.debugger.specs.Stepping.{Ends, is_at_end, is_end, step_events, steps_while}
 use Rattle.past.specs.Replay.{byte_due, byte_events, replayed, step_done}
 use Rattle.debugger.proofs.RunSteps.{if_not}
 use Rattle.debugger.proofs.Replays.{replayed-append, byte-is-passed, tick-is-passed}
@@ -35,12 +34,12 @@ less_one n = omega arith
 none : 0 < 0 → ⊥
 none some = omega arith
 
-pub at-end : (first later : List Stop) (n room : ℕ) (r : ReplayState) (s : State) → is_at_end (Some r) room s ≡ true
+pub at-end : (first later : Ends) (n room : ℕ) (r : ReplayState) (s : State) → is_at_end (Some r) room s ≡ true
     → steps_while first later (Some r) n room s ≡ []
 at-end first later zero room r s h = refl
 at-end first later (suc n) room r s h = if_so (is_at_end (Some r) room s) [] _ h
 
-pub none-left : (first later : List Stop) (n room : ℕ) (r : ReplayState) (s : State) → n ≡ 0
+pub none-left : (first later : Ends) (n room : ℕ) (r : ReplayState) (s : State) → n ≡ 0
     → steps_while first later (Some r) n room s ≡ []
 none-left first later zero room r s h = refl
 none-left first later (suc n) room r s h = absurd (omega (arith, h))
@@ -71,13 +70,13 @@ pub room-left : (r : ReplayState) (room : ℕ) (s : State) → is_at_end (Some r
 room-left r room s h = not-none room (second-is-false _ (room == 0) _ h)
 
 -- u is the machine after the byte that is due, and r1 where the schedule stands then
-module _ (first later : List Stop) (n room : ℕ) (some : 0 < n) (r r1 : ReplayState) (s u : State)
+module _ (first later : Ends) (n room : ℕ) (some : 0 < n) (r r1 : ReplayState) (s u : State)
     (more : is_at_end (Some r) room s ≡ false) (at_u : u ≡ run_after (byte_events (Some r)) s)
     (at_r1 : r1 ≡ replayed (byte_events (Some r)) r) where
   abbrev all : List Event
   all = steps_while first later (Some r) n room s
 
-  module _ (there : is_any_stop first u ≡ true) where
+  module _ (there : is_end first u ≡ true) where
     pub stops : all ≡ byte_events (Some r)
     stops = go n some
       where
@@ -85,11 +84,11 @@ module _ (first later : List Stop) (n room : ℕ) (some : 0 < n) (r r1 : ReplayS
         go zero any = absurd (none any)
         go (suc m) any =
             if_not (is_at_end (Some r) room s) [] _ more
-            ∙ ap (λ es. byte_events (Some r) ++ es) (if_so (is_any_stop first _) [] _ (ap (is_any_stop first) (sym at_u) ∙ there))
+            ∙ ap (λ es. byte_events (Some r) ++ es) (if_so (is_end first _) [] _ (ap (is_end first) (sym at_u) ∙ there))
             ∙ append-nil (byte_events (Some r))
 
   -- and after the step m and r2
-  module _ (there : is_any_stop first u ≡ false) (r2 : ReplayState) (m : State) (k : ℕ)
+  module _ (there : is_end first u ≡ false) (r2 : ReplayState) (m : State) (k : ℕ)
       (at_m : m ≡ run_after (step_events (Some r1) u) u) (at_r2 : r2 ≡ step_done r1) (sends : k ≡ length (option_to_list (sent Step u)))
     where
       abbrev rest : List Event
@@ -125,7 +124,7 @@ module _ (first later : List Stop) (n room : ℕ) (some : 0 < n) (r r1 : ReplayS
           go zero any = absurd (none any)
           go (suc i) any =
               if_not (is_at_end (Some r) room s) [] _ more
-              ∙ ap (λ es. byte_events (Some r) ++ es) (if_not (is_any_stop first _) [] _ (ap (is_any_stop first) (sym at_u) ∙ there))
+              ∙ ap (λ es. byte_events (Some r) ++ es) (if_not (is_end first _) [] _ (ap (is_end first) (sym at_u) ∙ there))
               ∙ ap (λ steps. with_rest steps (step_done r) i (length (option_to_list (sent Step there_now)))
               (run_after (step_events (Some r) there_now) there_now)) (sym same_steps)
               ∙ ap (λ q. with_rest (step_events (Some r1) u) q i (length (option_to_list (sent Step there_now)))

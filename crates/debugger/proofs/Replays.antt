@@ -9,9 +9,8 @@ use Rattle.steps.specs.Event.{after, sent}
 use Rattle.machine.specs.Run.{run_after}
 use Rattle.schedules.specs.Schedule.{byte_before, first_steps, is_halted, is_tick_after, steps_in, up_to_halt}
 use Rattle.schedules.proofs.Events.{is_halted-brought, no_more, run_after-append, state_after}
-use Rattle.debug_commands.specs.declared.command.Stop.{Stop}
 use Rattle.past.specs.Replay.{ReplayState}
-use Rattle.debugger.specs.Stepping.{is_any_stop, is_at_end, ready, step_events, steps_while}
+use Rattle.debugger.specs.Stepping.{Ends, is_at_end, is_end, ready, step_events, steps_while}
 use Rattle.past.specs.Replay.{byte_due, byte_events, replayed, step_done}
 use Rattle.debugger.specs.OnSchedule.{events_so_far}
 
@@ -128,7 +127,7 @@ module _ (start : State) (running : is_halted start ≡ false) where
       ∙ more (with_byte r) (Step ∷ (if due then Tick ∷ [] else [])) t still at
       ∙ ap (λ es. run_after (up_to_halt es start) start) (next-steps r)
 
-  pub follows : (n : ℕ) (first later : List Stop) (r : ReplayState) (room : ℕ) (t : State) → Is (events_so_far r) t
+  pub follows : (n : ℕ) (first later : Ends) (r : ReplayState) (room : ℕ) (t : State) → Is (events_so_far r) t
       → Is (events_so_far (replayed (steps_while first later (Some r) n room t) r))
       (run_after (steps_while first later (Some r) n room t) t)
   follows zero first later r room t at = at
@@ -171,10 +170,10 @@ module _ (start : State) (running : is_halted start ≡ false) where
       or_stops goes_on false still here = stepped goes_on still here
 
       go : Later → (b : Bool) → is_at_end (Some r) room t ≡ b
-          → Good (if b then [] else (byte ++ (if is_any_stop first there then [] else (steps ++ later_steps))))
+          → Good (if b then [] else (byte ++ (if is_end first there then [] else (steps ++ later_steps))))
       go goes_on true e = at
       go goes_on false e =
           let still : is_halted t ≡ false = third-is-false _ _ (is_halted t) e in
-          let rest : List Event = if is_any_stop first there then [] else (steps ++ later_steps) in
+          let rest : List Event = if is_end first there then [] else (steps ++ later_steps) in
           rw (replayed-append byte rest r, run_after-append byte rest t)
-          (or_stops goes_on (is_any_stop first there) (is_halted-brought (byte_due (Some r)) t ∙ still) (ready_at r t still at))
+          (or_stops goes_on (is_end first there) (is_halted-brought (byte_due (Some r)) t ∙ still) (ready_at r t still at))

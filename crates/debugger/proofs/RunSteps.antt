@@ -9,12 +9,14 @@ use Rattle.steps.specs.declared.event.Event.TheVariants.{Step}
 use Rattle.steps.specs.State.{State, pc_of}
 use Rattle.steps.specs.Outcome.{is_trap}
 use Rattle.steps.specs.Steps.{GoesBy}
-use Rattle.steps.specs.Event.{after, sent}
+use Rattle.steps.specs.Event.{after, outcome, sent}
 use Rattle.machine.specs.Run.{run_after, run_sent}
 use Rattle.debug_commands.specs.declared.command.Stop.{Stop}
 use Rattle.debug_commands.specs.declared.command.Stop.TheVariants.{Address, Trap}
 use Rattle.debug_commands.specs.Command.{stop_address}
-use Rattle.debugger.specs.Stepping.{is_any_stop, is_at_end, is_stop, steps_while}
+use Rattle.debugger.specs.Stepping.{Ends, is_any_stop, is_at_end, is_end, is_stop, steps_while}
+use Rattle.sim_run.specs.Stopping.{is_stop as is_trap_met}
+use Rattle.sim_run.specs.declared.stopping.StopAt.TheVariants.{Unfetched}
 use Rattle.debugger.specs.Lines.{goes_on}
 
 module _ (es : List Event) (e : Event) (rest : List Event) (first : es ≡ e ∷ rest) (s n : State) (step : n ≡ after e s) where
@@ -87,20 +89,20 @@ abbrev pub room_after : ℕ → State → ℕ
 room_after room s = room - length (option_to_list (sent Step s))
 
 -- one step more, or none
-pub one_step : (first later : List Stop) (n room : ℕ) (s m : State) → m ≡ after Step s → goes_on first n room s ≡ true
+pub one_step : (first later : Ends) (n room : ℕ) (s m : State) → m ≡ after Step s → goes_on first n room s ≡ true
     → steps_while first later None n room s ≡ Step ∷ steps_while later later None (n - 1) (room_after room s) m
 one_step first later zero room s m e h = absurd (cc)
 one_step first later (suc n) room s m e h =
-    let both = neither (nat_lt 0 (suc n)) (is_at_end None room s) (is_any_stop first s) h in
-    if_not (is_at_end None room s) [] _ both.0 ∙ if_not (is_any_stop first s) [] _ both.1
+    let both = neither (nat_lt 0 (suc n)) (is_at_end None room s) (is_end first s) h in
+    if_not (is_at_end None room s) [] _ both.0 ∙ if_not (is_end first s) [] _ both.1
     ∙ ap (λ t. Step ∷ steps_while later later None n (room_after room s) t) (sym e)
     ∙ ap (λ k. Step ∷ steps_while later later None k (room_after room s) m) (sym (less_one n))
 
-pub no_step : (first later : List Stop) (n room : ℕ) (s : State) → goes_on first n room s ≡ false
+pub no_step : (first later : Ends) (n room : ℕ) (s : State) → goes_on first n room s ≡ false
     → steps_while first later None n room s ≡ []
 no_step first later zero room s h = refl
 no_step first later (suc n) room s h =
-    either (nat_lt 0 (suc n)) (is_at_end None room s) (is_any_stop first s) _ (some_left n) h
+    either (nat_lt 0 (suc n)) (is_at_end None room s) (is_end first s) _ (some_left n) h
 
 -- ---- steps of a run towards a stop
 
@@ -132,16 +134,38 @@ pub goes-on-by : (stop : Stop) (s : State) → GoesBy (stop_address stop) s → 
 goes-on-by (Address address) s by = or_false (is_stop (Address address) s) ∙ elsewhere-not (pc_of s) address by.elsewhere
 goes-on-by Trap s by = or_false (is_stop Trap s) ∙ ap is_trap by.plain
 
-pub passes-none : (stops : List Stop) → length stops < 1 → (s : State) → GoesBy None s → is_any_stop stops s ≡ false
-passes-none [] few s by = refl
-passes-none (stop ∷ stops) few s by = absurd (omega (arith, few))
+-- nor before a trap
+neither-end : (stops unfetched trap : Bool) → stops ≡ false → trap ≡ false → (stops || (unfetched && trap)) ≡ false
+neither-end stops true trap a b = rw (a, b) refl
+neither-end stops false trap a b = rw a refl
 
-pub passes-one : (d : Stop) (stops : List Stop) → 1 ≤ length stops → length stops < 2 → (at : Option ℕ)
+none-met : (at : Option ℕ) (s : State) → GoesBy at s → is_trap_met Unfetched s ≡ false
+unfolding is_trap_met
+none-met at s by =
+    let plain : is_trap (outcome Step s) ≡ false = ap is_trap by.plain in
+    rw plain refl
+
+no-stop : (stops : List Stop) → length stops < 1 → (s : State) → is_any_stop stops s ≡ false
+no-stop [] few s = refl
+no-stop (stop ∷ stops) few s = absurd (omega (arith, few))
+
+one-stop : (d : Stop) (stops : List Stop) → 1 ≤ length stops → length stops < 2 → (at : Option ℕ)
     → at ≡ stop_address (get_or stops 0 d)
     → (s : State) → GoesBy at s → is_any_stop stops s ≡ false
-passes-one d [] some few at is s by = absurd (omega (arith, some))
-passes-one d (stop ∷ []) some few at is s by = goes-on-by stop s (subst (λ a. GoesBy a s) is by)
-passes-one d (stop ∷ other ∷ stops) some few at is s by = absurd (omega (arith, few))
+one-stop d [] some few at is s by = absurd (omega (arith, some))
+one-stop d (stop ∷ []) some few at is s by = goes-on-by stop s (subst (λ a. GoesBy a s) is by)
+one-stop d (stop ∷ other ∷ stops) some few at is s by = absurd (omega (arith, few))
+
+pub passes-none : (ends : Ends) → length ends.stops < 1 → (s : State) → GoesBy None s → is_end ends s ≡ false
+passes-none ends few s by =
+    neither-end (is_any_stop ends.stops s) ends.unfetched (is_trap_met Unfetched s) (no-stop ends.stops few s) (none-met None s by)
+
+pub passes-one : (d : Stop) (ends : Ends) → 1 ≤ length ends.stops → length ends.stops < 2 → (at : Option ℕ)
+    → at ≡ stop_address (get_or ends.stops 0 d)
+    → (s : State) → GoesBy at s → is_end ends s ≡ false
+passes-one d ends some few at is s by =
+    neither-end (is_any_stop ends.stops s) ends.unfetched (is_trap_met Unfetched s) (one-stop d ends.stops some few at is s by)
+    (none-met at s by)
 
 pub positive : (n : ℕ) → (n ≡ 0 → ⊥) → 0 < n
 positive zero other = absurd (other refl)
@@ -167,48 +191,48 @@ same_room room s silent =
     let none : room - 0 ≡ room = omega arith in
     ap (λ (bytes : List ℕ). room - length bytes) silent ∙ none
 
-module _ (stops : List Stop) (at : Option ℕ) (by : (s : State) → GoesBy at s → is_any_stop stops s ≡ false) (room : ℕ) (some : 0 < room)
+module _ (ends : Ends) (at : Option ℕ) (by : (s : State) → GoesBy at s → is_end ends s ≡ false) (room : ℕ) (some : 0 < room)
   where
     steps_by : (n k : ℕ) (s : State) → k ≤ n → run_sent (replicate k Step) s ≡ []
         → ((j : ℕ) → j < k → GoesBy at (run_after (replicate j Step) s))
-        → steps_while stops stops None n room s
-        ≡ replicate k Step ++ steps_while stops stops None (n - k) room (run_after (replicate k Step) s)
+        → steps_while ends ends None n room s
+        ≡ replicate k Step ++ steps_while ends ends None (n - k) room (run_after (replicate k Step) s)
     steps_by n zero s few silent goes =
         let all : n - 0 ≡ n = omega arith in
-        ap (λ m. steps_while stops stops None m room s) (sym all)
+        ap (λ m. steps_while ends ends None m room s) (sym all)
     steps_by zero (suc k) s few silent goes = absurd (too_many k few)
     steps_by (suc n) (suc k) s few silent goes =
         let less : suc n - suc k ≡ n - k = omega arith in
         let now = goes 0 (omega arith) in
         let none = first_nil (option_to_list (sent Step s)) (run_sent (replicate k Step) (after Step s)) silent in
         let later = second_nil (option_to_list (sent Step s)) (run_sent (replicate k Step) (after Step s)) silent in
-        if_not (is_at_end None room s) [] _ (not-at-end room s some now.running) ∙ if_not (is_any_stop stops s) [] _ (by s now)
-        ∙ ap (λ r. Step ∷ steps_while stops stops None n r (after Step s)) (same_room room s none)
+        if_not (is_at_end None room s) [] _ (not-at-end room s some now.running) ∙ if_not (is_end ends s) [] _ (by s now)
+        ∙ ap (λ r. Step ∷ steps_while ends ends None n r (after Step s)) (same_room room s none)
         ∙ ap (λ steps. Step ∷ steps)
         (steps_by n k (after Step s) (omega arith) later (λ j below. goes (suc j) (omega arith))
-        ∙ ap (λ m. replicate k Step ++ steps_while stops stops None m room (run_after (replicate k Step) (after Step s))) (sym less))
+        ∙ ap (λ m. replicate k Step ++ steps_while ends ends None m room (run_after (replicate k Step) (after Step s))) (sym less))
 
     module _ (n k : ℕ) (s m : State) (few : k ≤ n) (state : m ≡ run_after (replicate k Step) s)
         (silent : run_sent (replicate k Step) s ≡ []) (goes : (j : ℕ) → j < k → GoesBy at (run_after (replicate j Step) s)) where
-      towards : steps_while stops stops None n room s ≡ replicate k Step ++ steps_while stops stops None (n - k) room m
+      towards : steps_while ends ends None n room s ≡ replicate k Step ++ steps_while ends ends None (n - k) room m
       towards =
-          steps_by n k s few silent goes ∙ ap (λ t. replicate k Step ++ steps_while stops stops None (n - k) room t) (sym state)
+          steps_by n k s few silent goes ∙ ap (λ t. replicate k Step ++ steps_while ends ends None (n - k) room t) (sym state)
 
-      pub state_towards : run_after (steps_while stops stops None (n - k) room m) m ≡ run_after (steps_while stops stops None n room s) s
+      pub state_towards : run_after (steps_while ends ends None (n - k) room m) m ≡ run_after (steps_while ends ends None n room s) s
       state_towards =
-          ap (run_after (steps_while stops stops None (n - k) room m)) state
-          ∙ sym (by_state k (steps_while stops stops None (n - k) room m) s)
+          ap (run_after (steps_while ends ends None (n - k) room m)) state
+          ∙ sym (by_state k (steps_while ends ends None (n - k) room m) s)
           ∙ ap (λ steps. run_after steps s) (sym towards)
 
-      pub bytes_towards : run_sent (steps_while stops stops None (n - k) room m) m ≡ run_sent (steps_while stops stops None n room s) s
+      pub bytes_towards : run_sent (steps_while ends ends None (n - k) room m) m ≡ run_sent (steps_while ends ends None n room s) s
       bytes_towards =
-          ap (run_sent (steps_while stops stops None (n - k) room m)) state
-          ∙ ap (λ bytes. bytes ++ run_sent (steps_while stops stops None (n - k) room m) (run_after (replicate k Step) s)) (sym silent)
-          ∙ sym (by_bytes k (steps_while stops stops None (n - k) room m) s) ∙ ap (λ steps. run_sent steps s) (sym towards)
+          ap (run_sent (steps_while ends ends None (n - k) room m)) state
+          ∙ ap (λ bytes. bytes ++ run_sent (steps_while ends ends None (n - k) room m) (run_after (replicate k Step) s)) (sym silent)
+          ∙ sym (by_bytes k (steps_while ends ends None (n - k) room m) s) ∙ ap (λ steps. run_sent steps s) (sym towards)
 
-      pub count_towards : k + length (steps_while stops stops None (n - k) room m) ≡ length (steps_while stops stops None n room s)
-      count_towards = sym (by_count k (steps_while stops stops None (n - k) room m)) ∙ ap length (sym towards)
+      pub count_towards : k + length (steps_while ends ends None (n - k) room m) ≡ length (steps_while ends ends None n room s)
+      count_towards = sym (by_count k (steps_while ends ends None (n - k) room m)) ∙ ap length (sym towards)
 
-pub some_step : (stops : List Stop) (n room : ℕ) (s : State) → goes_on stops n room s ≡ true → 0 < n
-some_step stops zero room s h = absurd (cc)
-some_step stops (suc n) room s h = omega arith
+pub some_step : (ends : Ends) (n room : ℕ) (s : State) → goes_on ends n room s ≡ true → 0 < n
+some_step ends zero room s h = absurd (cc)
+some_step ends (suc n) room s h = omega arith

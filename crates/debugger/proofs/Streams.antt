@@ -9,10 +9,9 @@ use Rattle.steps.specs.Event.{after, sent}
 use Rattle.machine.specs.Run.{run_after}
 use Rattle.schedules.specs.Schedule.{is_halted}
 use Rattle.schedules.proofs.Events.{run_after-append}
-use Rattle.debug_commands.specs.declared.command.Stop.{Stop}
 use Rattle.past.specs.Position.{Position, after_byte_or_step, at, byte_or_step, events_from, next_event, next_position, position_after}
 use Rattle.past.specs.Replay.{ReplayState, byte_due, byte_events, is_tick_due, replayed, step_done}
-use Rattle.debugger.specs.Stepping.{counted_steps, is_any_stop, is_at_end, next_step, ready, step_events, steps_while}
+use Rattle.debugger.specs.Stepping.{Ends, counted_steps, is_at_end, is_end, next_step, nowhere, ready, step_events, steps_while}
 use Rattle.debugger.proofs.Replays.{byte-is-passed, replayed-append, tick-is-passed}
 
 -- ---- events that come from a position, and where they lead
@@ -125,7 +124,7 @@ nothing : (es : List Event) (b : Bool) → b ≡ true → (if b then [] else es)
 nothing es true h = refl
 nothing es false h = absurd (cc)
 
-none_after_halt : (later : List Stop) (replay : Option ReplayState) (n room : ℕ) (s : State) → is_halted s ≡ true
+none_after_halt : (later : Ends) (replay : Option ReplayState) (n room : ℕ) (s : State) → is_halted s ≡ true
     → steps_while later later replay n room s ≡ []
 none_after_halt later replay zero room s h = refl
 none_after_halt later replay (suc n) room s h = nothing _ (is_at_end replay room s) (third _ _ (is_halted s) h)
@@ -185,7 +184,7 @@ module _ (replay : Option ReplayState) (s : State) (rest : List Event) where
           ap (λ t. on.0 && not (is_halted t)) state ∙ on.2,
         )
 
-goes_on_while : (n : ℕ) (first later : List Stop) (replay : Option ReplayState) (room : ℕ) (s : State)
+goes_on_while : (n : ℕ) (first later : Ends) (replay : Option ReplayState) (room : ℕ) (s : State)
     → GoesOn (steps_while first later replay n room s) replay false s
 goes_on_while zero first later replay room s = (false, none replay false, refl)
 goes_on_while (suc n) first later replay room s =
@@ -211,9 +210,9 @@ goes_on_while (suc n) first later replay room s =
         one_step replay s rest on (none_after_halt later (next_step replay) n left (run_after steps there))
 
     go : GoesOn rest (next_step replay) false (run_after steps there) → (b : Bool)
-        → GoesOn (if b then [] else (byte_events replay ++ (if is_any_stop first there then [] else (steps ++ rest)))) replay false s
+        → GoesOn (if b then [] else (byte_events replay ++ (if is_end first there then [] else (steps ++ rest)))) replay false s
     go on true = (false, none replay false, refl)
-    go on false = or_stops on (is_any_stop first there)
+    go on false = or_stops on (is_end first there)
 
 steps_alone : (n : ℕ) → Leads (replicate n Step) (at None false) (at None false)
 steps_alone zero = refl
@@ -221,7 +220,7 @@ steps_alone (suc n) = (refl, steps_alone n)
 
 goes_on_counted : (replay : Option ReplayState) (n : ℕ) (s : State) → GoesOn (counted_steps replay n s) replay false s
 goes_on_counted None n s = (false, steps_alone n, refl)
-goes_on_counted (Some r) n s = goes_on_while n [] [] (Some r) n s
+goes_on_counted (Some r) n s = goes_on_while n nowhere nowhere (Some r) n s
 
 stream : (es : List Event) (replay : Option ReplayState) (s : State) → GoesOn es replay false s → IsStream es replay s
 stream es replay s on = record {
@@ -231,7 +230,7 @@ stream es replay s on = record {
   halted = on.2;
 }
 
-pub steps_are_streams : (first later : List Stop) (replay : Option ReplayState) (n room : ℕ) (s : State)
+pub steps_are_streams : (first later : Ends) (replay : Option ReplayState) (n room : ℕ) (s : State)
     → IsStream (steps_while first later replay n room s) replay s
 steps_are_streams first later replay n room s =
     stream (steps_while first later replay n room s) replay s (goes_on_while n first later replay room s)

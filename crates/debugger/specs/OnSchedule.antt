@@ -34,7 +34,7 @@ pub record IsOnSchedule (start : State) (schedule : Schedule) (input : List ℕ)
 abbrev pub are_whole_steps : Events → Bool
 are_whole_steps (Steps n) = true
 are_whole_steps (Until stop n) = true
-are_whole_steps Go = true
+are_whole_steps (Go n) = true
 are_whole_steps other = false
 
 -- commands that give events, one after the other, and how many steps they give

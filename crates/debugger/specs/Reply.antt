@@ -6,7 +6,7 @@ use Rattle.std.specs.List.{flat_map, list_any}
 use Rattle.base.specs.Ram.{ram_base}
 use Rattle.cap_bounds.specs.CapValue.{CapValue, value_of, value_flag}
 use Rattle.tagged_memory.specs.Memory.{Memory, is_in_ram, bytes_at, number_at, word_at, has_tag, tagged_between}
-use Rattle.special_regs.specs.Scrs.{scr_values}
+use Rattle.special_regs.specs.Scrs.{scr_value, scr_values}
 use Rattle.base.specs.declared.registers.TheConstants.{CSRS}
 use Rattle.special_regs.specs.CsrValues.{csr_value}
 use Rattle.devices.specs.Devices.{interrupts_of}
@@ -22,7 +22,7 @@ use Rattle.debug_commands.specs.declared.fault.DebugFault.{DebugFault}
 use Rattle.debug_commands.specs.declared.fault.DebugFault.TheVariants.{B1, B2, B3, B4}
 use Rattle.texts.specs.Hex.{hex_of}
 use Rattle.disassembler.specs.Shown.{name_or}
-use Rattle.explain.specs.ValueText.{value_line}
+use Rattle.explain.specs.ValueText.{shown_value, value_line}
 use Rattle.explain.specs.WordLine.{labelled_word}
 use Rattle.symbols.specs.Labels.{labelled}
 use Rattle.symbols.specs.Sources.{source_of}
@@ -40,7 +40,7 @@ use Rattle.debug_commands.specs.declared.command.SetStops.{SetStops}
 use Rattle.debug_commands.specs.declared.command.SetStops.TheVariants.{Add, Clear}
 use Rattle.debug_commands.specs.declared.command.View.{View}
 use Rattle.debug_commands.specs.declared.command.View.TheVariants as view
-use Rattle.debug_commands.specs.Command.{help_text, command_of}
+use Rattle.debug_commands.specs.Command.{about_line, help_text, command_of}
 use Rattle.symbols.specs.Symbols.{Symbol}
 use Rattle.debugger.specs.SessionState.{SessionState, TimelineState, session_with}
 use Rattle.origins.specs.Places.{held}
@@ -51,7 +51,9 @@ use Rattle.past.specs.Replay.{ReplayState, replayed}
 use Rattle.past.specs.declared.given.Given.{Given}
 use Rattle.past.specs.declared.given.Given.TheVariants as gave
 use Rattle.schedules.specs.Schedule.{is_halted}
-use Rattle.debugger.specs.Stepping.{counted_steps, most_gone, most_sent, steps_holding, steps_while}
+use Rattle.debugger.specs.Stepping.{at_stops, counted_steps, is_any_stop, most_sent, nowhere, of_go, steps_holding, steps_while}
+use Rattle.sim_run.specs.Stopping.{is_stop as is_trap_met}
+use Rattle.sim_run.specs.declared.stopping.StopAt.TheVariants.{Unfetched}
 use Rattle.debugger.specs.Reaching.{graph_reply, may_reply, members_reply, reach_reply}
 
 -- ---- commands that give events
@@ -65,8 +67,8 @@ are_scheduled other = true
 -- steps, with the schedule and the stops of a session
 unfoldable pub own_steps : Events → Option ReplayState → List Stop → State → List Event
 own_steps (Steps n) replay stops s = counted_steps replay n s
-own_steps (Until stop n) replay stops s = steps_while (stop ∷ []) (stop ∷ []) replay n n s
-own_steps Go replay stops s = steps_while [] stops replay most_gone most_sent s
+own_steps (Until stop n) replay stops s = steps_while (at_stops (stop ∷ [])) (at_stops (stop ∷ [])) replay n (most_sent n) s
+own_steps (Go n) replay stops s = steps_while nowhere (of_go stops) replay n (most_sent n) s
 own_steps other replay stops s = []
 
 -- before them the tick that is to come yet
@@ -138,6 +140,16 @@ standing symbols s =
 abbrev pub events_line : List Symbol → List Event → State → List ℕ
 events_line symbols events s =
     codes "events " ++ decimal (length events) ++ codes " out " ++ shown_sent (run_sent events s) ++ standing symbols (run_after events s)
+
+-- what `go` says too: that the next step is a trap whose entry can't be fetched, where no stop of the session holds there
+abbrev pub said_after : Events → List Stop → State → List ℕ
+said_after (Go n) stops s =
+    if is_trap_met Unfetched s && not (is_any_stop stops s) then codes "before a trap whose entry can't be fetched\n" else []
+said_after other stops s = []
+
+abbrev pub events_text : Events → SessionState → List ℕ
+events_text events s =
+    events_line s.symbols (given_in events s) s.machine ++ said_after events s.stops (run_after (given_in events s) s.machine)
 
 -- ---- commands that go back, and that show what came before
 
@@ -244,6 +256,7 @@ word_lines symbols mode m (suc n) address =
 abbrev pub is_view_outside : View → State → Bool
 is_view_outside (view.Memory address n) s = not (is_in_ram s.memory address n)
 is_view_outside (view.Words address n) s = not (is_in_ram s.memory address (4 * n))
+is_view_outside (view.WordsAtPcc n) s = not (is_in_ram s.memory (pc_of s) (4 * n))
 is_view_outside other s = false
 
 abbrev pub is_place_outside : Place → State → Bool
@@ -276,12 +289,14 @@ code_text B4 = codes "B4 no memory for the reply\n"
 -- what is shown
 unfoldable pub view_text : List Symbol → List Stop → View → State → List ℕ
 view_text symbols stops (view.Register n) s = value_line (name_or [] (register_name true n)) (register s.registers n)
+view_text symbols stops (view.SpecialRegister n) s = named_line shown_value (name_or [] (scr_name n)) (scr_value s.scrs n)
 view_text symbols stops view.Registers s = register_lines s 0 capability_names
 view_text symbols stops view.SpecialRegisters s = scr_lines (scr_values s.scrs)
 view_text symbols stops view.ControlRegisters s = csr_lines s
 view_text symbols stops view.Capabilities s = cap_lines s.memory
 view_text symbols stops (view.Memory address n) s = byte_lines n address (bytes_at s.memory address n)
 view_text symbols stops (view.Words address n) s = word_lines symbols (value_flag s.scrs.pcc) s.memory n address
+view_text symbols stops (view.WordsAtPcc n) s = word_lines symbols (value_flag s.scrs.pcc) s.memory n (pc_of s)
 view_text symbols stops view.Why s = why_text symbols s
 view_text symbols stops (view.Reach horizon) s = reach_reply horizon symbols s
 view_text symbols stops view.ReachMembers s = members_reply symbols s
@@ -289,7 +304,9 @@ view_text symbols stops view.ReachGraph s = graph_reply symbols s
 view_text symbols stops (view.May may horizon) s = may_reply horizon symbols may s
 view_text symbols stops view.Stops s = stops_text stops
 view_text symbols stops view.Help s = help_text
+view_text symbols stops (view.HelpOn line) s = about_line line
 view_text symbols stops (view.Code fault) s = code_text fault
+view_text symbols stops view.Nothing s = []
 
 -- whether two stops are the same
 abbrev pub is_same_stop : Stop → Stop → Bool
@@ -309,7 +326,7 @@ pub data Answer : Type 0 where
   ended : Answer
 
 abbrev pub answer_to : Command → SessionState → Answer
-answer_to (Gives events) s = told (events_line s.symbols (given_in events s) s.machine)
+answer_to (Gives events) s = told (events_text events s)
 answer_to (Shows what) s = told (view_text s.symbols s.stops what s.machine)
 answer_to (Back n) s = told (back_line s.symbols n (taken_back n (timeline_of s)).machine)
 answer_to (Recalls recall) s = told (recalled_in s.symbols recall s.past s.replay)

@@ -1,5 +1,5 @@
 -- The steps of a command, with the byte before each and the tick after it where a session has a schedule; and where they stop.
-use Rattle.std.specs.Prelude.{ℕ, zero, suc, ◌-◌, ◌==◌, nat_lt, Bool, not, ◌&&◌, ◌||◌, if◌then◌else◌, List, [], ◌∷◌, ◌++◌}
+use Rattle.std.specs.Prelude.{ℕ, zero, suc, ◌-◌, ◌==◌, nat_lt, min, Bool, true, false, not, ◌&&◌, ◌||◌, if◌then◌else◌, List, [], ◌∷◌, ◌++◌}
 use Rattle.std.specs.Prelude.{length, replicate, Option, Some, None, option_to_list}
 use Rattle.std.specs.List.{list_any}
 use Rattle.steps.specs.declared.event.Event.{Event}
@@ -11,6 +11,8 @@ use Rattle.machine.specs.Run.{run_after}
 use Rattle.schedules.specs.Schedule.{is_halted}
 use Rattle.debug_commands.specs.declared.command.Stop.{Stop}
 use Rattle.debug_commands.specs.declared.command.Stop.TheVariants.{Address, Trap}
+use Rattle.sim_run.specs.Stopping.{is_stop as is_trap_met}
+use Rattle.sim_run.specs.declared.stopping.StopAt.TheVariants.{Unfetched}
 use Rattle.origins.specs.declared.place.Place.{Place}
 use Rattle.cap_bounds.specs.CapValue.{CapValue}
 use Rattle.cap_rights.specs.Derivations.{equal_exact}
@@ -27,6 +29,27 @@ is_stop Trap s = is_trap (step_outcome s)
 
 abbrev pub is_any_stop : List Stop → State → Bool
 is_any_stop stops s = list_any (λ stop. is_stop stop s) stops
+
+-- where steps end: before a step at which one of some stops holds, and, where it says so, before a trap whose entry can't be fetched
+pub record Ends : Type 0 where
+  pub stops : List Stop
+  pub unfetched : Bool
+
+abbrev pub ends : List Stop → Bool → Ends
+ends stops unfetched = record { stops = stops; unfetched = unfetched }
+
+abbrev pub at_stops : List Stop → Ends
+at_stops stops = ends stops false
+
+abbrev pub nowhere : Ends
+nowhere = at_stops []
+
+-- those of `go`
+abbrev pub of_go : List Stop → Ends
+of_go stops = ends stops true
+
+abbrev pub is_end : Ends → State → Bool
+is_end e s = is_any_stop e.stops s || (e.unfetched && is_trap_met Unfetched s)
 
 -- ---- the schedule
 
@@ -48,14 +71,14 @@ is_at_end replay room s = is_over replay || ((room == 0) || is_halted s)
 abbrev pub ready : Option ReplayState → State → State
 ready replay s = run_after (byte_events replay) s
 
--- Steps: so many at most, and none after they sent so many bytes. A stop is looked for after the byte that comes before a step: before the
--- first step one of some stops, before each later one of others.
-abbrev pub steps_while : List Stop → List Stop → Option ReplayState → ℕ → ℕ → State → List Event
+-- Steps: so many at most, and none after they sent so many bytes. Where they end is looked for after the byte that comes before a step:
+-- before the first step it is one place, before each later one another.
+abbrev pub steps_while : Ends → Ends → Option ReplayState → ℕ → ℕ → State → List Event
 steps_while first later replay zero room s = []
 steps_while first later replay (suc n) room s =
     if is_at_end replay room s then []
     else (byte_events replay
-    ++ (if is_any_stop first (ready replay s) then []
+    ++ (if is_end first (ready replay s) then []
     else (step_events replay (ready replay s)
     ++ steps_while later later (next_step replay) n (room - length (option_to_list (sent Step (ready replay s))))
     (run_after (step_events replay (ready replay s)) (ready replay s)))))
@@ -63,7 +86,7 @@ steps_while first later replay (suc n) room s =
 -- `step`: without a schedule steps of a halted machine too, which change nothing
 abbrev pub counted_steps : Option ReplayState → ℕ → State → List Event
 counted_steps None n s = replicate n Step
-counted_steps (Some r) n s = steps_while [] [] (Some r) n n s
+counted_steps (Some r) n s = steps_while nowhere nowhere (Some r) n n s
 
 -- ---- changes
 
@@ -85,9 +108,6 @@ steps_holding place v (suc n) p s =
     if is_done p s || not (holds place v s) then []
     else next_event p ∷ steps_holding place v n (next_position p) (after (next_event p) s)
 
--- the most steps that `go` gives, and the most bytes that they send
-unfoldable pub most_gone : ℕ
-most_gone = 1000000000000
-
-unfoldable pub most_sent : ℕ
-most_sent = 1000000
+-- the most bytes that so many steps up to a stop send
+unfoldable pub most_sent : ℕ → ℕ
+most_sent n = min n 1000000

@@ -1,10 +1,12 @@
 //! The replies to commands.
-ghost use Rattle.std.specs.Prelude.{◌≡◌, ◌++◌, false, IfOk, IfErr, OnOk, OnErr, string_bytes};
+ghost use Rattle.std.specs.Prelude.{◌≡◌, ◌++◌, ◌*◌, false, true, IfOk, IfErr, OnOk, OnErr, string_bytes};
 ghost use Rattle.cap_bounds.specs.CapValue.{value_flag};
 ghost use Rattle.special_regs.specs.Scrs.{scr_value};
+ghost use Rattle.steps.specs.State.{pc_of};
+ghost use Rattle.tagged_memory.specs.Memory.{is_in_ram};
 ghost use Rattle.debug_commands.specs.Limits.{IsWithinLimits, IsShownWithinLimits};
 ghost use Rattle.debugger.specs.Reply.{answer_to, code_text, is_beyond, is_outside, is_place_outside, is_view_outside, session_after};
-ghost use Rattle.debugger.specs.Reply.{told, view_text};
+ghost use Rattle.debugger.specs.Reply.{told, view_text, word_lines};
 ghost use Rattle.debugger.specs.Answers.{seen_reply};
 ghost use Rattle.debugger.specs.SessionState.{session_with};
 
@@ -14,11 +16,12 @@ use crate::reaching::{append_graph, append_may, append_members, append_reach};
 use crate::recalling::{recalled, told_back};
 use crate::reply::Reply;
 use crate::run::told_events;
-use crate::state::{append_csrs, append_register, append_registers, append_scrs};
+use crate::state::{append_csrs, append_register, append_registers, append_scr, append_scrs};
+use crate::stepping::pc;
 use crate::stops::{append_stops, set_stops};
 use crate::timeline::Timeline;
 use cap_bounds::CapRep;
-use debug_commands::{Command, DebugFault, Events, Recall, Stop, View, help_text};
+use debug_commands::{Command, DebugFault, Events, Recall, Stop, View, about_line, help_text};
 use explain::put_why;
 use machine::Machine;
 use origins::Place;
@@ -61,6 +64,9 @@ pub(crate) fn is_outside<C: CapRep>(machine: &Machine<C>, command: Command) -> b
         Command::Shows(View::Words { address, count }) => {
             !machine.memory().is_in_ram(address, 4 * count)
         }
+        Command::Shows(View::WordsAtPcc(count)) => {
+            !machine.memory().is_in_ram(pc(machine), 4 * count)
+        }
         Command::Gives(Events::Changed { place, .. })
         | Command::Recalls(Recall::Origin(place) | Recall::Lost(place)) => {
             is_place_outside(machine, place)
@@ -83,6 +89,27 @@ fn code_text(fault: DebugFault) -> &'static str
     }
 }
 
+/// Appends the lines of so many words from PCC's address to a text.
+fn append_words_at_pcc<C: CapRep>(
+    text: &mut String,
+    symbols: &Symbols,
+    machine: &Machine<C>,
+    count: u64,
+) -> Result<(), AllocError>
+    requires { is_in_ram machine.now.memory (pc_of machine.now) (4 * count) ≡ true }
+    ensures { OnOk result (string_bytes text.new ≡ string_bytes text.old
+        ++ word_lines symbols.now (value_flag machine.now.scrs.pcc) machine.now.memory count (pc_of machine.now)) }
+{
+    append_words(
+        text,
+        symbols,
+        machine.memory(),
+        mode(machine),
+        pc(machine),
+        count,
+    )
+}
+
 /// Appends what is to be shown to a text.
 #[tactic(auto, unfolding(crate::specs::Reply::view_text))]
 fn append_view<C: CapRep>(
@@ -99,6 +126,7 @@ fn append_view<C: CapRep>(
 {
     match view {
         View::Register(n) => append_register(text, machine, n),
+        View::SpecialRegister(n) => append_scr(text, machine, n),
         View::Registers => append_registers(text, machine, 0),
         View::SpecialRegisters => append_scrs(text, machine),
         View::ControlRegisters => append_csrs(text, machine),
@@ -116,6 +144,7 @@ fn append_view<C: CapRep>(
                 count,
             )
         }
+        View::WordsAtPcc(count) => append_words_at_pcc(text, symbols, machine, count),
         View::Why => put_why(text, symbols, machine.hart()),
         View::Reach(horizon) => append_reach(text, alloc, symbols, machine.hart(), horizon),
         View::ReachMembers => append_members(text, alloc, symbols, machine.hart()),
@@ -123,7 +152,9 @@ fn append_view<C: CapRep>(
         View::May(may, horizon) => append_may(text, alloc, symbols, machine.hart(), may, horizon),
         View::Stops => append_stops(text, stops),
         View::Help => append(text, &[Text(help_text())]),
+        View::HelpOn(line) => append(text, &[Text(about_line(line))]),
         View::Code(fault) => append(text, &[Text(code_text(fault))]),
+        View::Nothing => Ok(()),
     }
 }
 

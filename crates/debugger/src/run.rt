@@ -9,8 +9,8 @@ ghost use Rattle.arrayvec.specs.ArrayString.{array_string_len};
 ghost use Rattle.texts.specs.Hex.{hex_of};
 ghost use Rattle.debugger.specs.Reply.{after_events, events_line, given, given_of, given_on, own_steps, owed_after, replay_after};
 ghost use Rattle.debugger.specs.Reply.{with_tick};
-ghost use Rattle.debugger.specs.Reply.{shown_end, shown_sent, standing};
-ghost use Rattle.debugger.specs.Stepping.{counted_steps, most_gone, most_sent};
+ghost use Rattle.debugger.specs.Reply.{said_after, shown_end, shown_sent, standing};
+ghost use Rattle.debugger.specs.Stepping.{counted_steps, most_sent};
 ghost use Rattle.past.specs.Replay.{replayed};
 ghost use Rattle.debugger.specs.Keeping.{HasBegun, IsChangeThere, begun_past, kept_last};
 ghost use Rattle.debugger.specs.Lines.{given_part, most_of};
@@ -18,7 +18,7 @@ ghost use Rattle.past.specs.Given.{count_of, count_of_one};
 ghost use Rattle.debug_commands.specs.Limits.{AreWithinLimits};
 
 use crate::changed::steps_holding;
-use crate::stepping::{pass, pc, steps_replayed, steps_while};
+use crate::stepping::{pass, pc, said_after, steps_replayed, steps_while};
 use crate::timeline::Timeline;
 use arrayvec::ArrayString;
 use cap_bounds::CapRep;
@@ -63,22 +63,13 @@ fn steps<C: CapRep>(machine: &mut Machine<C>, times: u64, sent: &mut Vec<u8>)
     }
 }
 
-/// The most steps that `go` gives.
-#[tactic(auto, unfolding(crate::specs::Stepping::most_gone))]
-fn most_gone() -> u64
-    ensures value { result ≡ most_gone }
-    ensures bound { result ≤ 1000000000000 }
-{
-    1_000_000_000_000
-}
-
-/// The most bytes that these steps send.
+/// The most bytes that so many steps up to a stop send.
 #[tactic(auto, unfolding(crate::specs::Stepping::most_sent))]
-fn most_sent() -> u64
-    ensures value { result ≡ most_sent }
+fn most_sent(steps: u64) -> u64
+    ensures value { result ≡ most_sent steps }
     ensures bound { result ≤ 1000000 }
 {
-    1_000_000
+    steps.min(1_000_000)
 }
 
 /// The most bytes that a command's events send.
@@ -89,9 +80,9 @@ fn most_bytes(events: Events) -> u64
 {
     match events {
         Events::Steps(n) | Events::Ticks(n) => n,
-        Events::Until { most, .. } | Events::Changed { most, .. } => most,
+        Events::Until { most, .. } | Events::Go { most } => most_sent(most),
+        Events::Changed { most, .. } => most,
         Events::Byte(_) => 1,
-        Events::Go => most_sent(),
     }
 }
 
@@ -111,7 +102,7 @@ fn give_steps<C: CapRep>(
     ensures len { vec_len sent.new ≤ vec_len sent.old + times }
 {
     match replay {
-        Some(replay) => steps_replayed(machine, replay, &[], &[], times, times, sent),
+        Some(replay) => steps_replayed(machine, replay, &[], &[], false, times, times, sent),
         None => {
             steps(machine, times, sent);
             times
@@ -142,11 +133,12 @@ fn give_own<C: CapRep>(
         Events::Steps(n) => give_steps(machine, replay, n, sent),
         Events::Until { stop, most } => {
             let stops = [stop];
-            steps_while(machine, replay, &stops, &stops, most, most, sent)
+            let room = most_sent(most);
+            steps_while(machine, replay, &stops, &stops, false, most, room, sent)
         }
-        Events::Go => {
-            let (most, room) = (most_gone(), most_sent());
-            steps_while(machine, replay, &[], stops, most, room, sent)
+        Events::Go { most } => {
+            let room = most_sent(most);
+            steps_while(machine, replay, &[], stops, true, most, room, sent)
         }
         Events::Ticks(_) => 0,
         Events::Byte(_) => 0,
@@ -186,7 +178,7 @@ fn given_of(events: Events, count: u64) -> Given
     match events {
         Events::Ticks(_) => Given::Ticks(count),
         Events::Byte(byte) => Given::Byte(byte),
-        Events::Steps(_) | Events::Until { .. } | Events::Changed { .. } | Events::Go => {
+        Events::Steps(_) | Events::Until { .. } | Events::Changed { .. } | Events::Go { .. } => {
             Given::Steps(count)
         }
     }
@@ -348,25 +340,36 @@ pub(crate) fn place_text<C: CapRep>(symbols: &Symbols, machine: &Machine<C>) -> 
     ])
 }
 
-/// Appends the line that tells of so many events and of what they sent to a text.
+/// Appends what is said after a line to a text.
+fn append_said(text: &mut String, said: &str) -> Result<(), AllocError>
+    ensures bytes { OnOk result (string_bytes text.new ≡ string_bytes text.old ++ said.now) }
+    ensures full { OnErr result (string_capacity text.old < string_len text.old + length said.now) }
+{
+    append(text, &[Text(said)])
+}
+
+/// Appends the line that tells of so many events and of what they sent to a text, and what is said after it.
 fn append_events<C: CapRep>(
     text: &mut String,
     symbols: &Symbols,
     machine: &Machine<C>,
     count: u64,
     sent: &[u8],
+    said: &str,
 ) -> Result<(), AllocError>
+    requires { length said.now ≤ 50 }
     ensures bytes { OnOk result (string_bytes text.new
-        ≡ string_bytes text.old ++ (given_part count sent.now ++ standing symbols.now machine.now)) }
+        ≡ string_bytes text.old ++ (given_part count sent.now ++ standing symbols.now machine.now ++ said.now)) }
     ensures full { OnErr result (string_capacity text.old < string_len text.old + 2 * length sent.now + 720) }
 {
     let place = place_text(symbols, machine);
     append(text, &[Text("events "), Decimal(count), Text(" out ")])?;
     append_sent(text, sent)?;
-    append(text, &[Text(place.as_str())])
+    append(text, &[Text(place.as_str())])?;
+    append_said(text, said)
 }
 
-/// Gives the events of a command, and answers the line that tells of them.
+/// Gives the events of a command, and answers the line that tells of them and what is said after it.
 ///
 /// The line's room, and that in the past, is made before the first event: B4 says that there is no memory for it, and then no event is
 /// given.
@@ -380,7 +383,8 @@ pub(crate) fn told_events<C: CapRep>(
     requires limits { AreWithinLimits events }
     requires there { IsChangeThere events timeline.old.machine }
     ensures text { IfOk result (λ text. string_bytes text
-        ≡ events_line symbols.now (given_on events stops.now timeline.old) timeline.old.machine) }
+        ≡ events_line symbols.now (given_on events stops.now timeline.old) timeline.old.machine
+        ++ said_after events stops.now (run_after (given_on events stops.now timeline.old) timeline.old.machine)) }
     ensures state { OnOk result (timeline.new ≡ after_events events (given_on events stops.now timeline.old) timeline.old) }
     ensures err { IfErr result (λ fault. fault ≡ DebugFault.B4) }
     ensures same { OnErr result (timeline.new ≡ timeline.old) }
@@ -389,7 +393,8 @@ pub(crate) fn told_events<C: CapRep>(
     let mut sent = Vec::with_capacity(alloc, most)?;
     let mut text = String::with_capacity(alloc, 2 * most + LINE_ROOM)?;
     let count = give_all(timeline, stops, events, &mut sent)?;
-    match append_events(&mut text, symbols, &timeline.machine, count, &sent) {
+    let said = said_after(&timeline.machine, stops, events);
+    match append_events(&mut text, symbols, &timeline.machine, count, &sent, said) {
         Ok(()) => Ok(text),
         Err(_) => unreachable!(),
     }

@@ -145,11 +145,12 @@ impl<C: CapRep> Session<C> {
 impl Session<WordCap> {
     /// Does what a line asks for, and answers its reply.
     ///
-    /// Commands are `step N`, `tick N`, `byte B`, `until ADDR N`, `trap N`, `go`, `stop at ADDR`, `stop trap`, `stop off`, `stops`,
-    /// `changed R N`, `back N`, `ago`, `origin R`, `lost R`, `reg R`, `regs`, `scr`, `csr`, `caps`, `mem ADDR LEN`, `dis ADDR N`, `why`,
-    /// `reach`, `may`, `help` and `quit`; numbers are those of the assembly language, and ADDR is a number or, if it is not one, a label of
-    /// the session. `step`, `tick`, `byte`, `until`, `trap`, `go`, `changed` and `back` change the machine, the three of `stop` the stops,
-    /// and none changes the labels.
+    /// Commands are `step N`, `tick N`, `byte B`, `until ADDR [N]`, `trap [N]`, `go [N]`, `stop at ADDR`, `stop trap`, `stop off`, `stops`,
+    /// `changed R N`, `back N`, `ago`, `origin R`, `lost R`, `reg R`, `regs`, `scr`, `csr`, `caps`, `mem ADDR [LEN]`, `dis [ADDR [N]]`,
+    /// `why`, `reach`, `may`, `help` and `quit`; numbers are those of the assembly language, and ADDR is a number or, if it is not one, a
+    /// label of the session, or such a label with a number added to it or taken away from it. A line whose first word begins with `#` is
+    /// answered with nothing. `step`, `tick`, `byte`, `until`, `trap`, `go`, `changed` and `back` change the machine, the three of `stop`
+    /// the stops, and none changes the labels.
     ///
     /// Refused with B1 where the line has no word or its first is no command; with B2 where its operands are others, and where the
     /// line has more than 255 bytes or one of 128 or more, whatever its words; where a session without a past is asked for one, where more

@@ -1,7 +1,9 @@
 //! The registers of a machine as lines of text.
-ghost use Rattle.std.specs.Prelude.{◌≡◌, ◌<◌, ◌++◌, ◌≤◌, IsTrue, OnOk, string_bytes, codes, drop};
+ghost use Rattle.std.specs.Prelude.{◌≡◌, ◌<◌, ◌++◌, ◌≤◌, [], IsTrue, OnOk, string_bytes, codes, drop};
 ghost use Rattle.std.specs.List.{flat_map, list_all};
 ghost use Rattle.asm_names.specs.Registers.{capability_names};
+ghost use Rattle.asm_names.specs.SpecialNames.{scr_name};
+ghost use Rattle.disassembler.specs.Shown.{name_or};
 ghost use Rattle.base.specs.Registers.{is_csr, is_scr};
 ghost use Rattle.special_regs.specs.Scrs.{scr_value, scr_values};
 ghost use Rattle.special_regs.specs.CsrValues.{csr_value};
@@ -11,7 +13,7 @@ ghost use Rattle.explain.specs.ValueText.{shown_value};
 ghost use Rattle.debugger.specs.Reply.{register_lines, scr_lines, csr_lines, named_line};
 ghost use Rattle.debugger.specs.Lines.{register_line};
 
-use asm_names::register_name;
+use asm_names::{register_name, scr_name};
 use base::{CSRS, SPECIAL_REGISTERS, SpecialRegister};
 use cap_bounds::CapRep;
 use explain::value_text;
@@ -58,6 +60,30 @@ pub(crate) fn append_registers<C: CapRep>(
     append_register(text, machine, n)?;
     append_registers(text, machine, n + 1)?;
     Ok(())
+}
+
+/// The name of special capability register `n`.
+fn name_of_scr(n: u8) -> &'static str
+    ensures { result.now ≡ name_or [] (scr_name n) }
+{
+    match scr_name(n) {
+        Some(name) => name,
+        None => "",
+    }
+}
+
+/// Appends the line of special capability register `n` to a text.
+pub(crate) fn append_scr<C: CapRep>(
+    text: &mut String,
+    machine: &Machine<C>,
+    n: u8,
+) -> Result<(), AllocError>
+    requires { IsTrue (is_scr n) }
+    ensures { OnOk result (string_bytes text.new ≡ string_bytes text.old
+        ++ named_line shown_value (name_or [] (scr_name n)) (scr_value machine.now.scrs n)) }
+{
+    let shown = value_text(machine.scr(n));
+    append_line(text, name_of_scr(n), shown.as_str())
 }
 
 /// Appends the lines of these special capability registers to a text.

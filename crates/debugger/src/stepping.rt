@@ -1,5 +1,5 @@
 //! Steps up to where they stop.
-ghost use Rattle.std.specs.Prelude.{◌≡◌, ◌+◌, ◌-◌, ◌*◌, ◌<◌, ◌≤◌, ◌++◌, length, option_map, option_to_list, vec_len, vec_capacity};
+ghost use Rattle.std.specs.Prelude.{◌≡◌, ◌+◌, ◌-◌, ◌*◌, ◌%◌, ◌<◌, ◌≤◌, ◌++◌, length, option_map, option_to_list, vec_len, vec_capacity};
 ghost use Rattle.std.specs.Prelude.{[], ◌∷◌, ◌&&◌, not, if◌then◌else◌, true, false, IfSome, IfNone, OnSome, None, Some};
 ghost use Rattle.special_regs.specs.Scrs.{scr_value};
 ghost use Rattle.steps.specs.declared.event.Event.TheVariants.{Step, Tick};
@@ -9,15 +9,19 @@ ghost use Rattle.steps.specs.Applying.{meant, IsPlanned};
 ghost use Rattle.steps.specs.Outcome.{is_trap, outcome_of};
 ghost use Rattle.machine.specs.Run.{run_after, run_sent};
 ghost use Rattle.schedules.specs.Schedule.{is_halted};
-ghost use Rattle.debugger.specs.Stepping.{is_any_stop, is_at_end, is_stop, step_events};
+ghost use Rattle.sim_run.specs.Stopping.{is_stop as is_trap_met};
+ghost use Rattle.sim_run.specs.declared.stopping.StopAt.TheVariants.{Unfetched};
+ghost use Rattle.debugger.specs.Reply.{said_after};
+ghost use Rattle.debugger.specs.Stepping.{at_stops, ends, is_any_stop, is_at_end, is_end, is_stop, step_events};
 ghost use Rattle.past.specs.Replay.{byte_events, is_over, replayed, step_done};
 ghost use Rattle.debugger.specs.Stepping.{steps_while as steps_while_of};
 ghost use Rattle.debugger.specs.Lines.{goes_on};
 
 use cap_bounds::CapRep;
-use debug_commands::Stop;
+use debug_commands::{Events, Stop};
 use machine::{Event, Machine, Planned};
 use past::Replay;
+use sim_run::{StopAt, stops_before};
 use steps::Effect;
 
 /// The number of PCC.
@@ -26,7 +30,8 @@ const PCC: u8 = 0;
 /// PCC's address.
 #[tactic(auto, unfolding(special_regs::specs::Scrs::scr_value))]
 pub(crate) fn pc<C: CapRep>(machine: &Machine<C>) -> u64
-    ensures { result ≡ pc_of machine.now }
+    ensures value { result ≡ pc_of machine.now }
+    ensures aligned { result % 4 ≡ 0 }
 {
     machine.scr(PCC).address()
 }
@@ -66,6 +71,54 @@ fn is_any_stop<C: CapRep>(machine: &Machine<C>, stops: &[Stop], planned: &Planne
     }
 }
 
+/// Whether a machine that isn't halted, and whose next step was planned, is where steps end: at one of some stops, or, where it says so,
+/// before a trap whose entry can't be fetched.
+fn is_end<C: CapRep>(
+    machine: &Machine<C>,
+    stops: &[Stop],
+    unfetched: bool,
+    planned: &Planned<C>,
+) -> bool
+    requires planned { IsPlanned C.value planned.now.effect machine.now }
+    requires running { machine.now.devices.halted ≡ None }
+    ensures { result ≡ is_end (ends stops.now unfetched) machine.now }
+{
+    is_any_stop(machine, stops, planned)
+        || (unfetched && stops_before(machine, planned, StopAt::Unfetched))
+}
+
+/// Whether the next step is a trap whose entry can't be fetched, and no stop holds there.
+fn is_before_unfetched<C: CapRep>(machine: &Machine<C>, stops: &[Stop]) -> bool
+    ensures { result ≡ (is_trap_met Unfetched machine.now && not (is_any_stop stops.now machine.now)) }
+{
+    if machine.halted().is_some() {
+        return false;
+    }
+    let planned = machine.next();
+    stops_before(machine, &planned, StopAt::Unfetched) && !is_any_stop(machine, stops, &planned)
+}
+
+/// What a command says after its events, beside the line that tells of them.
+pub(crate) fn said_after<C: CapRep>(
+    machine: &Machine<C>,
+    stops: &[Stop],
+    events: Events,
+) -> &'static str
+    ensures text { result.now ≡ said_after events stops.now machine.now }
+    ensures bound { length result.now ≤ 50 }
+{
+    match events {
+        Events::Go { .. } => {
+            if is_before_unfetched(machine, stops) {
+                "before a trap whose entry can't be fetched\n"
+            } else {
+                ""
+            }
+        }
+        _ => "",
+    }
+}
+
 /// Appends the byte that a step sent, if it sent one, to the others, for which there is room, and answers how many that are.
 fn keep_sent(sent: &mut Vec<u8>, byte: Option<u8>) -> u64
     requires { vec_len sent.old < vec_capacity sent.old }
@@ -85,16 +138,17 @@ fn keep_sent(sent: &mut Vec<u8>, byte: Option<u8>) -> u64
 }
 
 /// The next step that is given without a schedule, planned: there is one while fewer steps were given and bytes sent than the most, the
-/// machine isn't halted, and it isn't where steps stop.
+/// machine isn't halted, and it isn't where steps end.
 fn next_given<C: CapRep>(
     machine: &Machine<C>,
     stops: &[Stop],
+    unfetched: bool,
     left: u64,
     room: u64,
 ) -> Option<Planned<C>>
     ensures planned { IfSome result (λ planned. IsPlanned C.value planned.effect machine.now) }
-    ensures given { OnSome result (goes_on stops.now left room machine.now ≡ true) }
-    ensures stopped { IfNone result (goes_on stops.now left room machine.now ≡ false) }
+    ensures given { OnSome result (goes_on (ends stops.now unfetched) left room machine.now ≡ true) }
+    ensures stopped { IfNone result (goes_on (ends stops.now unfetched) left room machine.now ≡ false) }
     ensures few { OnSome result (0 < left) }
     ensures some { OnSome result (0 < room) }
 {
@@ -102,21 +156,30 @@ fn next_given<C: CapRep>(
         return None;
     }
     let planned = machine.next();
-    if is_any_stop(machine, stops, &planned) {
+    if is_end(machine, stops, unfetched, &planned) {
         return None;
     }
     Some(planned)
 }
 
-/// Gives steps of one run while they don't stop, at most so many, and answers how many there were. They send nothing.
-fn run_towards<C: CapRep>(machine: &mut Machine<C>, stops: &[Stop], most: u64, room: u64) -> u64
+/// Gives steps of one run while they don't end, at most so many, and answers how many there were. They send nothing.
+fn run_towards<C: CapRep>(
+    machine: &mut Machine<C>,
+    stops: &[Stop],
+    unfetched: bool,
+    most: u64,
+    room: u64,
+) -> u64
     ensures few { result ≤ most }
-    ensures state { run_after (steps_while_of stops.now stops.now None (most - result) room machine.new) machine.new
-        ≡ run_after (steps_while_of stops.now stops.now None most room machine.old) machine.old }
-    ensures bytes { run_sent (steps_while_of stops.now stops.now None (most - result) room machine.new) machine.new
-        ≡ run_sent (steps_while_of stops.now stops.now None most room machine.old) machine.old }
-    ensures count { result + length (steps_while_of stops.now stops.now None (most - result) room machine.new)
-        ≡ length (steps_while_of stops.now stops.now None most room machine.old) }
+    ensures state { run_after (steps_while_of (ends stops.now unfetched) (ends stops.now unfetched)
+        None (most - result) room machine.new) machine.new
+        ≡ run_after (steps_while_of (ends stops.now unfetched) (ends stops.now unfetched) None most room machine.old) machine.old }
+    ensures bytes { run_sent (steps_while_of (ends stops.now unfetched) (ends stops.now unfetched)
+        None (most - result) room machine.new) machine.new
+        ≡ run_sent (steps_while_of (ends stops.now unfetched) (ends stops.now unfetched) None most room machine.old) machine.old }
+    ensures count { result + length (steps_while_of (ends stops.now unfetched) (ends stops.now unfetched)
+        None (most - result) room machine.new)
+        ≡ length (steps_while_of (ends stops.now unfetched) (ends stops.now unfetched) None most room machine.old) }
 {
     if room == 0 {
         return 0;
@@ -128,32 +191,37 @@ fn run_towards<C: CapRep>(machine: &mut Machine<C>, stops: &[Stop], most: u64, r
     }
 }
 
-/// Gives steps without a schedule until the machine is where they stop or is halted, at most so many, and at most so many that send a
-/// byte. Answers how many there were. Before the first of them it stops at other stops than later.
+/// Gives steps without a schedule until the machine is where they end or is halted, at most so many, and at most so many that send a
+/// byte. Answers how many there were. Before the first of them they end elsewhere than later: at the first stops alone.
 fn steps_until<C: CapRep>(
     machine: &mut Machine<C>,
     first: &[Stop],
     later: &[Stop],
+    unfetched: bool,
     most: u64,
     most_sent: u64,
     sent: &mut Vec<u8>,
 ) -> u64
     requires { vec_len sent.old + most_sent ≤ vec_capacity sent.old }
-    ensures state { machine.new ≡ run_after (steps_while_of first.now later.now None most most_sent machine.old) machine.old }
+    ensures state { machine.new
+        ≡ run_after (steps_while_of (at_stops first.now) (ends later.now unfetched) None most most_sent machine.old) machine.old }
     ensures bytes { sent.new.items
-        ≡ sent.old.items ++ run_sent (steps_while_of first.now later.now None most most_sent machine.old) machine.old }
-    ensures count { result ≡ length (steps_while_of first.now later.now None most most_sent machine.old) }
+        ≡ sent.old.items ++ run_sent (steps_while_of (at_stops first.now) (ends later.now unfetched)
+        None most most_sent machine.old) machine.old }
+    ensures count { result ≡ length (steps_while_of (at_stops first.now) (ends later.now unfetched) None most most_sent machine.old) }
     ensures len { vec_len sent.new ≤ vec_len sent.old + most_sent }
 {
     let mut stops = first;
+    let mut stops_unfetched = false;
     let mut left = most;
     let mut room = most_sent;
-    while let Some(planned) = next_given(machine, stops, left, room) {
+    while let Some(planned) = next_given(machine, stops, stops_unfetched, left, room) {
         let out = machine.apply(planned);
         room -= keep_sent(sent, out.byte);
         stops = later;
+        stops_unfetched = unfetched;
         left -= 1;
-        left -= run_towards(machine, later, left, room);
+        left -= run_towards(machine, later, unfetched, left, room);
     }
     most - left
 }
@@ -247,33 +315,40 @@ pub(crate) fn steps_replayed<C: CapRep>(
     replay: &mut Replay,
     first: &[Stop],
     later: &[Stop],
+    unfetched: bool,
     most: u64,
     most_sent: u64,
     sent: &mut Vec<u8>,
 ) -> u64
     requires room { vec_len sent.old + most_sent ≤ vec_capacity sent.old }
     requires few { most ≤ 1000000000000 }
-    ensures state { machine.new ≡ run_after (steps_while_of first.now later.now (Some replay.old) most most_sent machine.old) machine.old }
+    ensures state { machine.new ≡ run_after (steps_while_of (at_stops first.now) (ends later.now unfetched)
+        (Some replay.old) most most_sent machine.old) machine.old }
     ensures bytes { sent.new.items
-        ≡ sent.old.items ++ run_sent (steps_while_of first.now later.now (Some replay.old) most most_sent machine.old) machine.old }
-    ensures replay { replay.new ≡ replayed (steps_while_of first.now later.now (Some replay.old) most most_sent machine.old) replay.old }
-    ensures count { result ≡ length (steps_while_of first.now later.now (Some replay.old) most most_sent machine.old) }
+        ≡ sent.old.items ++ run_sent (steps_while_of (at_stops first.now) (ends later.now unfetched)
+        (Some replay.old) most most_sent machine.old) machine.old }
+    ensures replay { replay.new ≡ replayed (steps_while_of (at_stops first.now) (ends later.now unfetched)
+        (Some replay.old) most most_sent machine.old) replay.old }
+    ensures count { result
+        ≡ length (steps_while_of (at_stops first.now) (ends later.now unfetched) (Some replay.old) most most_sent machine.old) }
     ensures len { vec_len sent.new ≤ vec_len sent.old + most_sent }
 {
     let mut stops = first;
+    let mut stops_unfetched = false;
     let mut left = most;
     let mut room = most_sent;
     let mut count = 0;
     while left > 0 && !is_at_end(machine, replay, room) {
         count += bring(machine, replay);
         let planned = machine.next();
-        if is_any_stop(machine, stops, &planned) {
+        if is_end(machine, stops, stops_unfetched, &planned) {
             return count;
         }
         let met = give_step(machine, replay, planned, sent);
         count += met.events;
         room -= met.sent;
         stops = later;
+        stops_unfetched = unfetched;
         left -= 1;
     }
     count
@@ -285,22 +360,28 @@ pub(crate) fn steps_while<C: CapRep>(
     replay: &mut Option<Replay>,
     first: &[Stop],
     later: &[Stop],
+    unfetched: bool,
     most: u64,
     most_sent: u64,
     sent: &mut Vec<u8>,
 ) -> u64
     requires room { vec_len sent.old + most_sent ≤ vec_capacity sent.old }
     requires few { most ≤ 1000000000000 }
-    ensures state { machine.new ≡ run_after (steps_while_of first.now later.now replay.old most most_sent machine.old) machine.old }
+    ensures state { machine.new
+        ≡ run_after (steps_while_of (at_stops first.now) (ends later.now unfetched) replay.old most most_sent machine.old) machine.old }
     ensures bytes { sent.new.items
-        ≡ sent.old.items ++ run_sent (steps_while_of first.now later.now replay.old most most_sent machine.old) machine.old }
+        ≡ sent.old.items ++ run_sent (steps_while_of (at_stops first.now) (ends later.now unfetched)
+        replay.old most most_sent machine.old) machine.old }
     ensures replay { replay.new
-        ≡ option_map (replayed (steps_while_of first.now later.now replay.old most most_sent machine.old)) replay.old }
-    ensures count { result ≡ length (steps_while_of first.now later.now replay.old most most_sent machine.old) }
+        ≡ option_map (replayed (steps_while_of (at_stops first.now) (ends later.now unfetched) replay.old most most_sent machine.old))
+        replay.old }
+    ensures count { result ≡ length (steps_while_of (at_stops first.now) (ends later.now unfetched) replay.old most most_sent machine.old) }
     ensures len { vec_len sent.new ≤ vec_len sent.old + most_sent }
 {
     match replay {
-        Some(replay) => steps_replayed(machine, replay, first, later, most, most_sent, sent),
-        None => steps_until(machine, first, later, most, most_sent, sent),
+        Some(replay) => steps_replayed(
+            machine, replay, first, later, unfetched, most, most_sent, sent,
+        ),
+        None => steps_until(machine, first, later, unfetched, most, most_sent, sent),
     }
 }

@@ -347,9 +347,10 @@ fn tell_no_plan<O: Write + Drop, E: Write>(output: O, errors: &mut E, fault: Pla
 /// Reads the words of a command line, the program's name first, and does what they ask: with files in `folder`, what is typed
 /// from `input`, what is sent, listed, answered or helped with to `output`, and what is told of refusals, faults and ends to `errors`.
 ///
-/// Answers the status: 0 for what was done, the version shown among it, and of a run where the machine halted with 0; 1 for a run
-/// that ended otherwise, an audit that found a part broken and a proof that wasn't found; 2 for a command line that was refused or asks for help, and where a file would be written over another of the
-/// command; 3 for another fault. At 0 and 1 the output comes with it, which has grown by exactly what was asked for.
+/// Answers the status: 0 for what was done, the version shown among it, and of a run where the machine halted with 0; 1 for a run that
+/// ended otherwise, an audit that found a part broken and a proof that wasn't found; 2 for a command line that was refused or asks for
+/// help, and where a file would be written over another of the command; 3 for another fault. At 0 and 1 the output comes with it, which
+/// has grown by exactly what was asked for.
 pub fn status_of<F: Folder, I: Read + Drop, O: Write + Drop, E: Write>(
     alloc: Global,
     folder: &mut F,

@@ -14,5 +14,5 @@ pub use before::{count_steps, lines_skipped, run_before, run_traced_before};
 pub use ending::{ending_lines, verdict};
 pub use profile::profile_before;
 pub use run::{Ran, run_counted, run_scheduled};
-pub use stopping::{StopAt, find_stop, stopped_lines};
+pub use stopping::{StopAt, find_stop, stopped_lines, stops_before};
 pub use traced::{TraceFault, run_traced};

@@ -3,6 +3,7 @@
 ghost use Rattle.std.proofs.Common.{◌∙◌};
 ghost use Rattle.std.specs.Prelude.{◌≡◌, Some, None, IfOk, IfSome, false, is_err, string_bytes, ⊤, refl};
 ghost use Rattle.special_regs.specs.Scrs.{IsAligned};
+ghost use Rattle.steps.specs.Applying.{IsPlanned};
 ghost use Rattle.steps.specs.Event.{after};
 ghost use Rattle.steps.specs.State.{State};
 ghost use Rattle.steps.specs.Step.{fetch, step_effect};
@@ -88,6 +89,18 @@ fn is_asked<C: CapRep>(machine: &Machine<C>, at: StopAt, fault: Fault) -> bool
     }
 }
 
+/// Whether the next step of a machine that isn't halted, which was planned, is a trap to stop before.
+pub fn stops_before<C: CapRep>(machine: &Machine<C>, planned: &Planned<C>, at: StopAt) -> bool
+    requires planned { IsPlanned C.value planned.now.effect machine.now }
+    requires running { is_halted machine.now ≡ false }
+    ensures { result ≡ is_stop at machine.now }
+{
+    match trap_in(planned) {
+        Some(fault) => is_asked(machine, at, fault),
+        None => false,
+    }
+}
+
 /// A watch that stops before the first step that is such a trap.
 #[derive(Drop)]
 pub struct Stop {
@@ -125,10 +138,7 @@ impl<C: CapRep> Watch<Machine<C>> for Stop {
     }
 
     fn stops(&self, machine: &Machine<C>, planned: &Planned<C>) -> bool {
-        match trap_in(planned) {
-            Some(fault) => is_asked(machine, self.at, fault),
-            None => false,
-        }
+        stops_before(machine, planned, self.at)
     }
 
     fn came(&mut self, _machine: &Machine<C>) {}

@@ -1,7 +1,7 @@
-use Rattle.std.proofs.Common.{◌∷◌, [], ◌∙◌, ap₂, arith}
+use Rattle.std.proofs.Common.{◌∷◌, [], ◌∙◌, ap, arith}
 use Rattle.std.specs.Prelude.{option_map}
 use Rattle.past.specs.Replay.{replayed}
-use Rattle.debugger.specs.Stepping.{steps_while}
+use Rattle.debugger.specs.Stepping.{Ends, at_stops, nowhere, of_go, steps_while}
 use Rattle.debugger.specs.Reply.{own_steps}
 use Rattle.debugger.proofs.Gives.{same_replay}
 use Rattle.debugger.proofs.Bounded.{counted_few, steps_few}
@@ -15,12 +15,18 @@ returns-in-Steps-clause-few g c =
 
 pub returns-in-Until-clause-replay : goal.returns-in-Until-clause-replay
 unfolding own_steps
-returns-in-Until-clause-replay g c = rw c.in-Until.is c.steps_while.ensures.replay
+returns-in-Until-clause-replay g c =
+    let there =
+    c.steps_while.ensures.replay
+    ∙ ap (λ room. option_map (replayed (steps_while (at_stops (c.in-Until.stop ∷ [])) (at_stops (c.in-Until.stop ∷ []))
+    c.args.replay.now c.in-Until.most room c.args.machine.now)) c.args.replay.now)
+    c.most_sent-room.ensures.value in
+    rw c.in-Until.is there
 
 pub returns-in-Until-clause-few : goal.returns-in-Until-clause-few
 returns-in-Until-clause-few g c =
-    let few =
-    steps_few (c.in-Until.stop ∷ []) (c.in-Until.stop ∷ []) c.args.replay.now c.in-Until.most c.in-Until.most c.args.machine.now in
+    let there : Ends = at_stops (c.in-Until.stop ∷ []) in
+    let few = steps_few there there c.args.replay.now c.in-Until.most c.most_sent-room.result c.args.machine.now in
     let most = rw c.in-Until.is at c.requires.limits in
     omega (arith, few, most, c.steps_while.ensures.count)
 
@@ -29,15 +35,17 @@ unfolding own_steps
 returns-in-Go-clause-replay g c =
     let there =
     c.steps_while-in-Go.ensures.replay
-    ∙ ap₂ (λ most room. option_map (replayed
-    (steps_while [] c.args.stops.now c.args.replay.now most room c.args.machine.now)) c.args.replay.now)
-    c.most_gone-most.ensures.value c.most_sent-room.ensures.value in
+    ∙ ap (λ room. option_map (replayed
+    (steps_while nowhere (of_go c.args.stops.now) c.args.replay.now c.in-Go.most room c.args.machine.now)) c.args.replay.now)
+    c.most_sent-room-in-Go.ensures.value in
     rw c.in-Go.is there
 
 pub returns-in-Go-clause-few : goal.returns-in-Go-clause-few
 returns-in-Go-clause-few g c =
-    let few = steps_few [] c.args.stops.now c.args.replay.now c.most_gone-most.result c.most_sent-room.result c.args.machine.now in
-    omega (arith, few, c.most_gone-most.ensures.bound, c.steps_while-in-Go.ensures.count)
+    let few =
+    steps_few nowhere (of_go c.args.stops.now) c.args.replay.now c.in-Go.most c.most_sent-room-in-Go.result c.args.machine.now in
+    let most = rw c.in-Go.is at c.requires.limits in
+    omega (arith, few, most, c.steps_while-in-Go.ensures.count)
 
 pub returns-in-Ticks-clause-replay : goal.returns-in-Ticks-clause-replay
 unfolding own_steps

@@ -2,8 +2,8 @@ use Rattle.std.proofs.Common.{rules}
 use Rattle.debugger.proofs.ReplaySteps.{running}
 use Rattle.debugger.proofs.stepping.next_given.Goals as goal
 
-pub is_any_stop-requires : goal.is_any_stop-requires
-is_any_stop-requires g c = (
+pub is_end-requires : goal.is_end-requires
+is_end-requires g c = (
   search rules,
   (
     c.next-planned.ensures.effect,

@@ -5,65 +5,73 @@ use Rattle.steps.specs.declared.event.Event.TheVariants.{Step}
 use Rattle.steps.specs.Event.{sent}
 use Rattle.machine.specs.Run.{run_after, run_sent}
 use Rattle.schedules.proofs.Events.{run_sent-brought}
-use Rattle.debugger.specs.Stepping.{is_any_stop, is_at_end, steps_while}
+use Rattle.debugger.specs.Stepping.{ends, is_at_end, is_end, steps_while}
 use Rattle.past.specs.Replay.{byte_due, replayed}
 use Rattle.debugger.proofs.ReplaySteps.{at-end, none-left, room-left, runs-on, stops, state-goes-on, bytes-go-on, replay-goes-on}
 use Rattle.debugger.proofs.ReplaySteps.{count-goes-on}
 use Rattle.debugger.proofs.stepping.steps_replayed.Goals as goal
 
-pub is_any_stop-requires : goal.is_any_stop-requires
-is_any_stop-requires g c =
+pub is_end-requires : goal.is_end-requires
+is_end-requires g c =
     let l = c.loop-left in
     let more : is_at_end (Some l.replay) l.room l.machine ≡ false = sym c.is_at_end.ensures ∙ c.if-not-is_at_end.true in
     (search rules, (c.next-planned.ensures.effect, c.bring-count.ensures.halted ∙ runs-on l.replay l.room l.machine more))
 
-pub returns-then-is_any_stop-clause-state : goal.returns-then-is_any_stop-clause-state
-returns-then-is_any_stop-clause-state g c =
+pub returns-then-is_end-clause-state : goal.returns-then-is_end-clause-state
+returns-then-is_end-clause-state g c =
     let l = c.loop-left in
+    let here = ends l.stops.now l.stops_unfetched in
+    let later = ends c.args.later.now c.args.unfetched in
     let b = c.bring-count in
     let more : is_at_end (Some l.replay) l.room l.machine ≡ false = sym c.is_at_end.ensures ∙ c.if-not-is_at_end.true in
-    let there : is_any_stop l.stops.now b.new.machine ≡ true = sym c.is_any_stop.ensures ∙ c.if-is_any_stop.true in
+    let there : is_end here b.new.machine ≡ true = sym c.is_end.ensures ∙ c.if-is_end.true in
     b.ensures.state
     ∙ ap (λ es. run_after es l.machine)
-    (sym (stops l.stops.now c.args.later.now l.left l.room c.loop-left-test.true l.replay b.new.replay l.machine b.new.machine more
+    (sym (stops here later l.left l.room c.loop-left-test.true l.replay b.new.replay l.machine b.new.machine more
     b.ensures.state b.ensures.replay there))
     ∙ l.invariant.state
 
-pub returns-then-is_any_stop-clause-bytes : goal.returns-then-is_any_stop-clause-bytes
-returns-then-is_any_stop-clause-bytes g c =
+pub returns-then-is_end-clause-bytes : goal.returns-then-is_end-clause-bytes
+returns-then-is_end-clause-bytes g c =
     let l = c.loop-left in
+    let here = ends l.stops.now l.stops_unfetched in
+    let later = ends c.args.later.now c.args.unfetched in
     let b = c.bring-count in
     let more : is_at_end (Some l.replay) l.room l.machine ≡ false = sym c.is_at_end.ensures ∙ c.if-not-is_at_end.true in
-    let there : is_any_stop l.stops.now b.new.machine ≡ true = sym c.is_any_stop.ensures ∙ c.if-is_any_stop.true in
+    let there : is_end here b.new.machine ≡ true = sym c.is_end.ensures ∙ c.if-is_end.true in
     sym
     (ap (λ bytes. l.sent.items ++ bytes)
     (ap (λ es. run_sent es l.machine)
-    (stops l.stops.now c.args.later.now l.left l.room c.loop-left-test.true l.replay b.new.replay l.machine b.new.machine more
+    (stops here later l.left l.room c.loop-left-test.true l.replay b.new.replay l.machine b.new.machine more
     b.ensures.state b.ensures.replay there)
     ∙ run_sent-brought (byte_due (Some l.replay)) l.machine)
     ∙ append-nil l.sent.items)
     ∙ l.invariant.bytes
 
-pub returns-then-is_any_stop-clause-replay : goal.returns-then-is_any_stop-clause-replay
-returns-then-is_any_stop-clause-replay g c =
+pub returns-then-is_end-clause-replay : goal.returns-then-is_end-clause-replay
+returns-then-is_end-clause-replay g c =
     let l = c.loop-left in
+    let here = ends l.stops.now l.stops_unfetched in
+    let later = ends c.args.later.now c.args.unfetched in
     let b = c.bring-count in
     let more : is_at_end (Some l.replay) l.room l.machine ≡ false = sym c.is_at_end.ensures ∙ c.if-not-is_at_end.true in
-    let there : is_any_stop l.stops.now b.new.machine ≡ true = sym c.is_any_stop.ensures ∙ c.if-is_any_stop.true in
+    let there : is_end here b.new.machine ≡ true = sym c.is_end.ensures ∙ c.if-is_end.true in
     b.ensures.replay
     ∙ ap (λ es. replayed es l.replay)
-    (sym (stops l.stops.now c.args.later.now l.left l.room c.loop-left-test.true l.replay b.new.replay l.machine b.new.machine more
+    (sym (stops here later l.left l.room c.loop-left-test.true l.replay b.new.replay l.machine b.new.machine more
     b.ensures.state b.ensures.replay there))
     ∙ l.invariant.replay
 
-pub returns-then-is_any_stop-clause-count : goal.returns-then-is_any_stop-clause-count
-returns-then-is_any_stop-clause-count g c =
+pub returns-then-is_end-clause-count : goal.returns-then-is_end-clause-count
+returns-then-is_end-clause-count g c =
     let l = c.loop-left in
+    let here = ends l.stops.now l.stops_unfetched in
+    let later = ends c.args.later.now c.args.unfetched in
     let b = c.bring-count in
     let more : is_at_end (Some l.replay) l.room l.machine ≡ false = sym c.is_at_end.ensures ∙ c.if-not-is_at_end.true in
-    let there : is_any_stop l.stops.now b.new.machine ≡ true = sym c.is_any_stop.ensures ∙ c.if-is_any_stop.true in
+    let there : is_end here b.new.machine ≡ true = sym c.is_end.ensures ∙ c.if-is_end.true in
     let all = ap length
-    (stops l.stops.now c.args.later.now l.left l.room c.loop-left-test.true l.replay b.new.replay l.machine b.new.machine more
+    (stops here later l.left l.room c.loop-left-test.true l.replay b.new.replay l.machine b.new.machine more
     b.ensures.state b.ensures.replay there) in
     omega (arith, all, b.ensures.count, l.invariant.counted)
 
@@ -84,13 +92,14 @@ overflow_sub-room g c =
 pub loop-left-preserved : goal.loop-left-preserved
 loop-left-preserved g c =
     let l = c.loop-left in
+    let here = ends l.stops.now l.stops_unfetched in
     let b = c.bring-count in
     let met = c.give_step-met in
-    let first = l.stops.now in
-    let later = c.args.later.now in
+    let first = ends l.stops.now l.stops_unfetched in
+    let later = ends c.args.later.now c.args.unfetched in
     let some = c.loop-left-test.true in
     let more : is_at_end (Some l.replay) l.room l.machine ≡ false = sym c.is_at_end.ensures ∙ c.if-not-is_at_end.true in
-    let there : is_any_stop l.stops.now b.new.machine ≡ false = sym c.is_any_stop.ensures ∙ c.if-is_any_stop.false in
+    let there : is_end here b.new.machine ≡ false = sym c.is_end.ensures ∙ c.if-is_end.false in
     let any = room-left l.replay l.room l.machine more in
     let count = count-goes-on first later l.left l.room some l.replay b.new.replay l.machine b.new.machine more b.ensures.state
     b.ensures.replay there met.new.replay met.new.machine met.result.sent met.ensures.state met.ensures.replay met.ensures.sent in
@@ -119,47 +128,63 @@ loop-left-preserved g c =
 pub returns-else-not-is_at_end-clause-state : goal.returns-else-not-is_at_end-clause-state
 returns-else-not-is_at_end-clause-state g c =
     let l = c.loop-left in
-    let e = at-end l.stops.now c.args.later.now l.left l.room l.replay l.machine (sym c.is_at_end.ensures ∙ c.if-not-is_at_end.false) in
+    let here = ends l.stops.now l.stops_unfetched in
+    let later = ends c.args.later.now c.args.unfetched in
+    let e = at-end here later l.left l.room l.replay l.machine (sym c.is_at_end.ensures ∙ c.if-not-is_at_end.false) in
     rw e at l.invariant.state
 
 pub returns-else-not-is_at_end-clause-bytes : goal.returns-else-not-is_at_end-clause-bytes
 returns-else-not-is_at_end-clause-bytes g c =
     let l = c.loop-left in
-    let e = at-end l.stops.now c.args.later.now l.left l.room l.replay l.machine (sym c.is_at_end.ensures ∙ c.if-not-is_at_end.false) in
+    let here = ends l.stops.now l.stops_unfetched in
+    let later = ends c.args.later.now c.args.unfetched in
+    let e = at-end here later l.left l.room l.replay l.machine (sym c.is_at_end.ensures ∙ c.if-not-is_at_end.false) in
     grind (arith, common_steps, rw e at l.invariant.bytes)
 
 pub returns-else-not-is_at_end-clause-replay : goal.returns-else-not-is_at_end-clause-replay
 returns-else-not-is_at_end-clause-replay g c =
     let l = c.loop-left in
-    let e = at-end l.stops.now c.args.later.now l.left l.room l.replay l.machine (sym c.is_at_end.ensures ∙ c.if-not-is_at_end.false) in
+    let here = ends l.stops.now l.stops_unfetched in
+    let later = ends c.args.later.now c.args.unfetched in
+    let e = at-end here later l.left l.room l.replay l.machine (sym c.is_at_end.ensures ∙ c.if-not-is_at_end.false) in
     rw e at l.invariant.replay
 
 pub returns-else-not-is_at_end-clause-count : goal.returns-else-not-is_at_end-clause-count
 returns-else-not-is_at_end-clause-count g c =
     let l = c.loop-left in
-    let e = at-end l.stops.now c.args.later.now l.left l.room l.replay l.machine (sym c.is_at_end.ensures ∙ c.if-not-is_at_end.false) in
+    let here = ends l.stops.now l.stops_unfetched in
+    let later = ends c.args.later.now c.args.unfetched in
+    let e = at-end here later l.left l.room l.replay l.machine (sym c.is_at_end.ensures ∙ c.if-not-is_at_end.false) in
     omega (arith, rw e at l.invariant.counted)
 
 pub returns-after-loop-left-clause-state : goal.returns-after-loop-left-clause-state
 returns-after-loop-left-clause-state g c =
     let l = c.loop-left in
-    let e = none-left l.stops.now c.args.later.now l.left l.room l.replay l.machine (omega (arith, c.loop-left-test.false)) in
+    let here = ends l.stops.now l.stops_unfetched in
+    let later = ends c.args.later.now c.args.unfetched in
+    let e = none-left here later l.left l.room l.replay l.machine (omega (arith, c.loop-left-test.false)) in
     rw e at l.invariant.state
 
 pub returns-after-loop-left-clause-bytes : goal.returns-after-loop-left-clause-bytes
 returns-after-loop-left-clause-bytes g c =
     let l = c.loop-left in
-    let e = none-left l.stops.now c.args.later.now l.left l.room l.replay l.machine (omega (arith, c.loop-left-test.false)) in
+    let here = ends l.stops.now l.stops_unfetched in
+    let later = ends c.args.later.now c.args.unfetched in
+    let e = none-left here later l.left l.room l.replay l.machine (omega (arith, c.loop-left-test.false)) in
     grind (arith, common_steps, rw e at l.invariant.bytes)
 
 pub returns-after-loop-left-clause-replay : goal.returns-after-loop-left-clause-replay
 returns-after-loop-left-clause-replay g c =
     let l = c.loop-left in
-    let e = none-left l.stops.now c.args.later.now l.left l.room l.replay l.machine (omega (arith, c.loop-left-test.false)) in
+    let here = ends l.stops.now l.stops_unfetched in
+    let later = ends c.args.later.now c.args.unfetched in
+    let e = none-left here later l.left l.room l.replay l.machine (omega (arith, c.loop-left-test.false)) in
     rw e at l.invariant.replay
 
 pub returns-after-loop-left-clause-count : goal.returns-after-loop-left-clause-count
 returns-after-loop-left-clause-count g c =
     let l = c.loop-left in
-    let e = none-left l.stops.now c.args.later.now l.left l.room l.replay l.machine (omega (arith, c.loop-left-test.false)) in
+    let here = ends l.stops.now l.stops_unfetched in
+    let later = ends c.args.later.now c.args.unfetched in
+    let e = none-left here later l.left l.room l.replay l.machine (omega (arith, c.loop-left-test.false)) in
     omega (arith, rw e at l.invariant.counted)
