@@ -82,9 +82,9 @@ def made():
             lines += ["", f"class {structures[kind]}(ctypes.Structure):", *listed("    _fields_ = [", rows, "]"), ""]
         elif other.endswith("_cap_t"):
             structures[other] = structures["cheri_cap_t"]
-    lines += ["", "CONSTANTS: Dict[str, int] = {"]
-    lines += [f'    "{name}": {value},' for name, value in re.findall(r"^\s+CHERISIM_(\w+) = (\d+)", text, re.MULTILINE)]
-    lines += ["}", "CALLS: Dict[str, Tuple[Any, ...]] = {  # what each answers, and what it is given"]
+    constants = [f'"{name}": {value}' for name, value in re.findall(r"^\s+CHERISIM_(\w+) = (\d+)", text, re.MULTILINE)]
+    lines += ["", *listed("CONSTANTS: Dict[str, int] = {", constants, "}")]
+    lines += ["CALLS: Dict[str, Tuple[Any, ...]] = {  # what each answers, and what it is given"]
     for answer, name, given in re.findall(r"^(\w+) (cheri\w+)\((.*?)\);", text, re.MULTILINE | re.DOTALL):
         operands = [] if given == "void" else [type_of(" ".join(it.split()), structures) for it in given.split(",")]
         lines += listed(f'    "{name}": (', [type_of(answer, structures), *operands], ")," if operands else ",),")

@@ -266,7 +266,8 @@ cherisim_status cherisim_audit(cherisim_t *machine, const uint8_t *policy, size_
 /* Whether it is shown of every run from the machine's state on, over any steps, ticks and bytes and with any bytes in the ranges that the
  * policy names by `any code in`, that it keeps to the policy; and the text that `cherisim prove` writes of that (docs/PROVE.md): *length
  * bytes, no 0 after them. Of the machine's own code at most so many steps are done, on a copy. Not shown is not refuted. Where the buffer is
- * too short, CHERISIM_FULL, and *length is what it takes; of a policy or a table of labels that is faulty what cherisim_watch says. */
+ * too short, CHERISIM_FULL, *shown, and *length is what it takes; of a policy or a table of labels that is faulty what cherisim_watch
+ * says. */
 cherisim_status cherisim_prove(cherisim_t *machine, const uint8_t *policy, size_t policy_length,
                                const uint8_t *labels, size_t labels_length, uint64_t steps,
                                bool *shown, uint8_t *text, size_t room, size_t *length, uint64_t *line);

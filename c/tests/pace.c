@@ -59,6 +59,16 @@ static void long_calls(unsigned long turns) {
         printf("%s: %.1f ns\n", what, (now() - began) / (count) * 1e9); \
     } while (0)
 
+/* a step of a call that looks before each whether 8 bytes stay */
+static void stepped_while(cherisim_t *m) {
+    cherisim_stepped_t stepped;
+    uint8_t held[8];
+    must(cherisim_read(m, 0x80000000, held, 8));
+    double began = now();
+    must(cherisim_step_while(m, CALLS, 0x80000000, held, 8, &stepped));
+    printf("a step while 8 bytes stay: %.1f ns\n", (now() - began) / (double)stepped.steps * 1e9);
+}
+
 static void short_calls(void) {
     cherisim_t m = CHERISIM_NONE, copy = CHERISIM_NONE;
     cherisim_asked_t one = {1, 0, 0, 0, false, false, false}, to_end = {1, 0, 0, 0, false, true, false};
@@ -70,6 +80,7 @@ static void short_calls(void) {
     uint8_t bytes[4096];
     assembled(&m, CALLS);
     SAY("a step", CALLS, cherisim_step(&m, &sent));
+    stepped_while(&m);
     SAY("a run of one step", CALLS, cherisim_run(&m, &one, bytes, 1, &ran));
     SAY("a run of one step, if it doesn't trap", CALLS, cherisim_run(&m, &to_end, bytes, 1, &ran));
     SAY("next_ends", CALLS, cherisim_next_ends(&m, &why));

@@ -1,23 +1,26 @@
 """The commands of the debugger that look at a machine, over the library: what GDB's `monitor` answers."""
 from __future__ import annotations
 
+import re
 from typing import Callable, Dict, Iterable, Iterator, List, Optional, Tuple
 
 from . import (CSRS, PAGE, RAM, REGISTERS, SCRS, SENTRY, UNSEALED, Cap, CherisimError, Door, Machine, OutOfRange, Perms, Reach, ReachMember,
                disassemble)
-from ._faults import in_range
 from ._html import letters
-from ._origins import Place, Told, place_of
+from ._origins import _RESERVED, Place, Told, place_of
 from ._replay import Replay
+from ._symbols import NAME
 
 _NO = {False: "no, until the next trap, unsealing or sealed jump\n", True: "no, until the next trap or unsealing\n"}  # through doors
 _MOVES = ("step", "tick", "byte", "until", "trap", "go", "changed", "back")
 _MOST = 100_000_000  # events, over which `origin` and `lost` are answered
+_LONGEST = 255  # bytes of a line
+_NUMBER = "-?[0-9]+|0x[0-9a-fA-F]+"
+_ADDRESS = re.compile(f"({_NUMBER})|({NAME})(?:([+-])({_NUMBER}))?")
 _BANKS = ("regs", "scr", "csr", "caps")
 _QUESTIONS = {"store": (2,), "load": (2,), "execute": (2,), "learn": (2,), "keep": (0, 2), "send": (0,), "halt": (0,), "system": (0,),
               "timer": (0,), "hold": (1,)}  # how many operands each has
-
-_RESERVED = 0x3FFFC  # the first object type that nothing seals with
+_ONES = (1 << 64) - 1
 _RIGHTS = (("load", Perms.Load), ("load capabilities", Perms.Load | Perms.Load_Capability), ("store", Perms.Store),
            ("execute", Perms.Execute), ("seal", Perms.Seal), ("unseal", Perms.Unseal))
 _DEVICES = (("halt", 0x100000), ("mtimecmp", 0x2004000), ("mtime", 0x200BFF8), ("transmit", 0x10000000), ("receive", 0x10000008),
@@ -25,10 +28,10 @@ _DEVICES = (("halt", 0x100000), ("mtimecmp", 0x2004000), ("mtime", 0x200BFF8), (
 
 HELP = """why                     what the next step will do, and why
 regs, scr, csr          general, special capability, control and status registers
-reg R                   a general register as a capability
+reg R                   a general or special register as a capability
 caps                    the capabilities in RAM
-mem ADDR LEN            bytes of RAM, at most 4096
-dis ADDR N              words of RAM as instructions, at most 1024
+mem ADDR [LEN]          bytes of RAM: 16, or at most 4096
+dis [ADDR [N]]          words of RAM, or from PCC's address on, as instructions: 8, or at most 1024
 reach, reach members    what the code that runs can come to hold, in sum and each; reach doors: through doors, too; reach dot: a graph
 origin R|ADDR           what a place's value was made of
 lost R|ADDR             where its tag went
@@ -39,11 +42,20 @@ may hold TYPE           whether a member is sealed with an object type, or may s
 ago                     how many steps were done
 stops                   breakpoints and watchpoints
 stop HOW                before which traps a run stops: unhandled, trap or never
+help COMMAND            its line here; of B1, B2, B3, what they mean
+B1, B2, B3              refused: no such command; its operands; a byte outside RAM
 """
 
 
 class Fault(Exception):
-    """A command is refused: B1 no such command, B2 its operands, B3 a byte outside RAM."""
+    """A command is refused, by a code of the last line of HELP."""
+
+
+def _number(word: str, least: int, most: int) -> int:
+    """A number in a range."""
+    if not re.fullmatch(_NUMBER, word) or not least <= int(word, 16 if "x" in word else 10) <= most:
+        raise Fault("B2")
+    return int(word, 16 if "x" in word else 10)
 
 
 def _has(cap: Cap, needs: Perms) -> bool:
@@ -73,7 +85,7 @@ class Monitor:
         self._answers: Dict[str, Callable[..., str]] = {
             "reg": self._reg, "mem": self._mem, "dis": self._dis, "reach": self._reach, "may": self._may, "why": self._why,
             "origin": lambda word: Told(replay, self._symbols).origin(self._past(word)),
-            "lost": lambda word: Told(replay, self._symbols).lost(self._past(word)), "help": lambda: HELP}
+            "lost": lambda word: Told(replay, self._symbols).lost(self._past(word)), "help": self._help}
 
     @property
     def _machine(self) -> Machine:
@@ -81,7 +93,11 @@ class Monitor:
 
     def answer(self, line: str) -> str:
         """The reply to a command; a refusal changes nothing."""
-        word, *given = line.split() or [""]
+        word, *given = re.findall("[^ \t\r]+", line) or [""]
+        if len(line) > _LONGEST or not line.isascii():
+            return "fault B2\n"
+        if word[:1] == "#":
+            return ""
         if word in _MOVES:
             return "GDB's own commands move the machine\n"
         if word in _BANKS:
@@ -93,10 +109,19 @@ class Monitor:
         except (TypeError, ValueError, CherisimError):
             return "fault B2\n"
 
-    def _number(self, word: str) -> int:
-        number = self._symbols[word] if word in self._symbols else int(word, 16 if word[:2] == "0x" else 10)
-        in_range("address", number, 64)
-        return number
+    def _help(self, word: str = "") -> str:
+        found = [line for line in HELP.splitlines(keepends=True) if not word or word in re.findall(r"\w+", line[:24])]
+        return "".join(found) or "fault B2\n"
+
+    def _address(self, word: str) -> int:
+        """An address: a number, a label, or so far from a label."""
+        found = _ADDRESS.fullmatch(word)
+        if not found:
+            raise Fault("B2")
+        if found[1]:
+            return _number(word, 0, _ONES)
+        far = _number(found[4] or "0", -1 << 63, _ONES)
+        return _number(str(self._symbols[found[2]] + (-far if found[3] == "-" else far)), 0, _ONES)
 
     def _bank(self, word: str) -> str:
         m = self._machine
@@ -110,24 +135,25 @@ class Monitor:
         return "".join(f"{name} {value}\n" for name, value in rows)
 
     def _reg(self, name: str) -> str:
+        if name in SCRS:
+            return f"{name} {self._machine.scrs[name]}\n"
         if name not in REGISTERS:
             raise Fault("B2")
         regs = self._machine.regs
         return f"{list(regs)[REGISTERS[name]]} {regs[name]}\n"
 
-    def _mem(self, address: str, length: str) -> str:
-        begin, count = self._number(address), int(length, 0)
-        if not 1 <= count <= 4096:
-            raise Fault("B2")
+    def _mem(self, address: str, length: str = "16") -> str:
+        begin, count = self._address(address), _number(length, 1, 4096)
         try:
             data = self._machine.mem[begin:begin + count]
         except OutOfRange:
             raise Fault("B3") from None
         return "".join(f"{begin + n:016x}: {data[n:n + 16].hex(' ')}\n" for n in range(0, count, 16))
 
-    def _dis(self, address: str, words: str) -> str:
-        begin, count, m = self._number(address), int(words, 0), self._machine
-        if not 1 <= count <= 1024 or begin % 4:
+    def _dis(self, address: Optional[str] = None, words: str = "8") -> str:
+        m = self._machine
+        begin, count = m.pc if address is None else self._address(address), _number(words, 1, 1024)
+        if begin % 4:
             raise Fault("B2")
         if not RAM <= begin <= begin + 4 * count <= RAM + m.pages * PAGE:
             raise Fault("B3")
@@ -143,7 +169,7 @@ class Monitor:
 
     def _past(self, word: str) -> Place:
         """A place whose past is asked for."""
-        where = word if word in REGISTERS or word in SCRS else self._number(word)
+        where = word if word in REGISTERS or word in SCRS else self._address(word)
         if isinstance(where, int) and where % 16 or self._replay.number(self._replay.n) > _MOST:
             raise Fault("B2")
         try:
@@ -216,7 +242,8 @@ class Monitor:
         given = given[:-2] if doors else given
         if len(given) not in _QUESTIONS.get(what, ()):
             raise Fault("B2")
-        machine, numbers = self._machine, [self._number(word) for word in given]
+        numbers = [_number(given[0], 0, 0x3FFFF)] if what == "hold" else [self._address(word) for word in given[:1]]
+        machine, numbers = self._machine, [*numbers, *(_number(word, 1, _ONES) for word in given[1:])]
         answer = getattr(machine, f"may_{what}")(*numbers, doors=doors)
         if answer is None:
             return _NO[doors]

@@ -13,6 +13,7 @@ from ._origins import Link, links
 _EVERY = 5_000_000  # steps between two states that are kept
 _KEPT, _BYTES = 32, 1 << 28  # states that are kept at most, and bytes of RAM in them: then every second one goes
 _SPAN = 2000        # steps that are looked at first for the last stop; then ever more
+_UNASKED = 64       # steps with a look at watched bytes before each, until it is asked again whether code can store there; then ever more
 _FAR = 1 << 62
 
 Range = Tuple[int, int]
@@ -203,10 +204,18 @@ class Replay:
         return self._changed(held)
 
     def _run_while(self, most: int, where: Range, held: bytes) -> None:
-        """Runs so many steps at most, before which no byte comes, while RAM has these bytes."""
+        """Runs so many steps at most, before which no byte comes, while RAM has these bytes. Where code can't store to them, they stay, as it
+        is proved, up to what ends its stretch; elsewhere they are looked at before each step."""
         machine, stepped, end, tick = self.machine, c.Stepped(), self.n + most, self.schedule.tick
+        answer, asked, span = c.Answer(), self.n, _UNASKED
         while self.n < end:
-            mark = min(end, (self.n // tick + 1) * tick) if tick else end
+            if asked <= self.n:
+                machine._do(lib.cherisim_may_store, *where, byref(answer))
+                if not answer.may:
+                    self.run(end - self.n, ends=True)
+                span = 2 * span if answer.may else _UNASKED
+                asked = self.n + span
+            mark = min(end, asked, (self.n // tick + 1) * tick if tick else end)
             machine._do(lib.cherisim_step_while, mark - self.n, where[0], held, len(held), byref(stepped))
             if not stepped.steps:
                 return

@@ -13,11 +13,11 @@ if TYPE_CHECKING:
 
 _NEAR = 4096  # a label stands after an address that lies fewer bytes above it
 _LONGEST = 240  # characters that are shown of a line of a source
-_NAME = "[A-Za-z_.][A-Za-z0-9_.]*"
+NAME = "[A-Za-z_.][A-Za-z0-9_.]*"
 _ROW = re.compile(r"(?:([0-9A-Fa-f]{16})| {16})(?: (\S))? (\S+)")
 _PLACED = re.compile(r"(?:([0-9A-Fa-f]{16})| {16}) (?:.*\t)?(.*)", re.DOTALL)
-_DEFINED = re.compile(rf"^[ \t\r]*({_NAME}):", re.MULTILINE)
-_PAGES = re.compile(rf"^([ \t\r]*(?:{_NAME}:)?)[ \t\r]*\.pages[ \t\r]+(\w+).*$", re.MULTILINE)
+_DEFINED = re.compile(rf"^[ \t\r]*({NAME}):", re.MULTILINE)
+_PAGES = re.compile(rf"^([ \t\r]*(?:{NAME}:)?)[ \t\r]*\.pages[ \t\r]+(\w+).*$", re.MULTILINE)
 _WORD = 8  # bytes of an address in the table that a text is assembled with
 
 
@@ -47,7 +47,7 @@ class Symbols:
             found = _ROW.fullmatch(line)
             if not found or found[1] is None and found[2] is None:
                 raise SymbolsFault(number)
-            if found[1] is not None and re.fullmatch(_NAME, found[3]):
+            if found[1] is not None and re.fullmatch(NAME, found[3]):
                 rows.append((found[3], int(found[1], 16)))
         return cls(rows, _lines_in(lines))
 

@@ -12,8 +12,8 @@ from . import REGISTERS, Cap, Machine, OutOfRange, Stop, disassemble
 
 _ACCESS = re.compile(r"c?([ls])([bhwdc])u?(?:\.ddc|\.cap)? (\w+), (-?\d*)\((\w+)\)")
 _SIZES = {"b": 1, "h": 2, "w": 4, "d": 8, "c": 16}
-_LONG = ("order", "pc_rdata", "pc_wdata", "insn", "rs1_rdata", "rs2_rdata", "rd_wdata", "mem_addr", "mem_rdata", "mem_wdata")
-_SHORT = ("mem_rmask", "mem_wmask", "rs1_addr", "rs2_addr", "rd_addr", "trap", "halt", "intr")
+LONG = ("order", "pc_rdata", "pc_wdata", "insn", "rs1_rdata", "rs2_rdata", "rd_wdata", "mem_addr", "mem_rdata", "mem_wdata")
+SHORT = ("mem_rmask", "mem_wmask", "rs1_addr", "rs2_addr", "rd_addr", "trap", "halt", "intr")
 _HALF = (1 << 64) - 1
 
 
@@ -85,4 +85,4 @@ def packed(fields: Dict[str, Any]) -> bytes:
     """The 88 bytes of a record: each number with its lowest byte first, registers as their addresses, and of 16 bytes of memory the lowest
     8, with as many bits of their masks."""
     number = {name: it.address if isinstance(it, Cap) else it for name, it in fields.items() if name != "text"}
-    return struct.pack("<10Q8B", *(number[name] & _HALF for name in _LONG), *(number[name] & 0xFF for name in _SHORT))
+    return struct.pack("<10Q8B", *(number[name] & _HALF for name in LONG), *(number[name] & 0xFF for name in SHORT))

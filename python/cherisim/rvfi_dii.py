@@ -15,7 +15,7 @@ import sys
 from typing import Any, Dict, Optional, Sequence
 
 from . import Cap, Machine, OutOfRange
-from .records import packed, record
+from .records import LONG, SHORT, packed, record
 
 INSTRUCTION, END, VERSION = 1, 0, ord("v")
 """The commands of a packet: do an instruction, end the trace and begin anew, take a version of the layout."""
@@ -28,9 +28,7 @@ _ADDRESS = "127.0.0.1"
 _HALTED, _SUPPORTED = 1, 3                       # in the field halt: the trace ended; and version 2 is known
 _MACHINE, _OF_64_BITS = 3, 2                     # the mode, and the width of registers
 _WITH_INTEGERS, _WITH_MEMORY = 1 << 0, 1 << 1    # what follows the head of version 2
-_NOTHING: Dict[str, Any] = dict.fromkeys(
-    ("order", "pc_rdata", "pc_wdata", "insn", "rs1_rdata", "rs2_rdata", "rd_wdata", "mem_addr", "mem_rdata", "mem_wdata", "mem_rmask",
-     "mem_wmask", "rs1_addr", "rs2_addr", "rd_addr", "trap", "halt", "intr"), 0)
+_NOTHING: Dict[str, Any] = dict.fromkeys((*LONG, *SHORT), 0)
 
 
 def _number(it: Any) -> int:

@@ -18,6 +18,9 @@ RAM, PAGE = 0x80000000, 4096
 FIRST = struct.pack("<5I", 0x100005B7, 0x04100513, 0x00A58023, 0x001005B7, 0x0005B023)
 
 
+GCC = "riscv64-unknown-elf-gcc"
+FLAGS = ["-march=rv64im", "-mabi=lp64", "-mcmodel=medany", "-ffreestanding", "-nostdlib"]
+
 MISSING = set()  # the programs of which a line said that they are not installed
 
 
@@ -40,6 +43,16 @@ def assembled(room, name):
     words = [PROGRAM, "asm", os.path.join(TOP, "examples", f"{name}.s"), made[0], "--symbols", made[1], "--lines", made[2]]
     subprocess.run(words, check=True)
     return made
+
+
+def compiled(room, sources, script, *words):
+    """The ELF of C sources in a folder, its bytes from RAM's beginning on, and its labels as `nm` prints them."""
+    table, flat, names = (os.path.join(room, name) for name in ("x.elf", "x.bin", "x.sym"))
+    subprocess.run([GCC, *FLAGS, *words, "-T", script, "-o", table, *sources], check=True)
+    subprocess.run([GCC.replace("gcc", "objcopy"), "-O", "binary", table, flat], check=True)
+    with open(names, "wb") as file:
+        subprocess.run([GCC.replace("gcc", "nm"), table], stdout=file, check=True)
+    return table, flat, names
 
 
 def read(*path):

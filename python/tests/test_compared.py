@@ -7,14 +7,13 @@ import importlib.util
 import io
 import os
 import random
-import subprocess
 import sys
 import tempfile
 import types
 import unittest
 
 import support
-from support import RAM
+from support import GCC, RAM
 import signature
 from cherisim import Machine
 from cherisim import compare_qemu
@@ -23,9 +22,7 @@ from cherisim._random_programs import (AT_TIME, CODE, DATA, DIRECT, HANDLER, STA
                                        program)
 
 STEPS = int(os.environ.get("CHERISIM_QEMU_STEPS", "10000"))
-GCC = "riscv64-unknown-elf-gcc"
 TESTS = os.path.dirname(os.path.abspath(__file__))
-FLAGS = ["-march=rv64im", "-mabi=lp64", "-mcmodel=medany", "-ffreestanding", "-nostdlib"]
 
 
 def said(call, *given):
@@ -33,16 +30,6 @@ def said(call, *given):
     with contextlib.redirect_stdout(io.StringIO()) as out:
         status = call(*given)
     return status, out.getvalue()
-
-
-def compiled(room, sources, script, *words):
-    """The bytes of sources from RAM's beginning on, and their labels as `nm` prints them, by their names in a folder."""
-    table, flat, names = (os.path.join(room, name) for name in ("x.elf", "x.bin", "x.sym"))
-    subprocess.run([GCC, *FLAGS, *words, "-T", script, "-o", table, *sources], check=True)
-    subprocess.run([GCC.replace("gcc", "objcopy"), "-O", "binary", table, flat], check=True)
-    with open(names, "wb") as file:
-        subprocess.run([GCC.replace("gcc", "nm"), table], stdout=file, check=True)
-    return flat, names
 
 
 class RandomPrograms(unittest.TestCase):
@@ -109,7 +96,7 @@ class BesideQemu(unittest.TestCase):
         folder = os.path.join(support.TOP, "examples", "c")
         with tempfile.TemporaryDirectory() as room:
             sources = [os.path.join(folder, "start.S"), os.path.join(folder, "primes.c")]
-            flat, _ = compiled(room, sources, os.path.join(folder, "program.ld"), "-O2")
+            _, flat, _ = support.compiled(room, sources, os.path.join(folder, "program.ld"), "-O2")
             status, out = said(compare_qemu.main, ["--program", flat])
         self.assertEqual(status, 0, out)
         self.assertRegex(out, r"^steps \d{3,}, sent b'2 3 5 .* 97\\n', differences: none\n$")

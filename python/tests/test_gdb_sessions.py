@@ -9,10 +9,10 @@ import time
 import unittest
 
 import support
-from support import RAM, image
+from support import GCC, RAM, image
 from cherisim import Machine, elf
 
-GDB, GCC = "gdb-multiarch", "riscv64-unknown-elf-gcc"
+GDB = "gdb-multiarch"
 ENVIRONMENT = {**os.environ, "PYTHONPATH": os.path.join(support.TOP, "python"), "LANG": "C.UTF-8"}
 TESTS = os.path.dirname(os.path.abspath(__file__))
 WAIT = 60  # seconds that a session may take
@@ -75,11 +75,8 @@ class Sessions(unittest.TestCase):
     def compiled(self):
         """The table and the image of sum.c."""
         source = os.path.join(support.TOP, "examples", "c")
-        table, flat = self.at("sum.elf"), self.at("sum.bin")
-        words = ["-march=rv64im", "-mabi=lp64", "-mcmodel=medany", "-O0", "-g", "-ffreestanding", "-nostdlib"]
-        subprocess.run([GCC, *words, "-T", os.path.join(source, "program.ld"), "-o", table, os.path.join(source, "start.S"),
-                        os.path.join(TESTS, "sum.c")], check=True)
-        subprocess.run([GCC.replace("gcc", "objcopy"), "-O", "binary", table, flat], check=True)
+        sources = [os.path.join(source, "start.S"), os.path.join(TESTS, "sum.c")]
+        table, flat, _ = support.compiled(self.room, sources, os.path.join(source, "program.ld"), "-O0", "-g")
         with open(flat, "rb") as data, open(self.at("sum.img"), "wb") as made:
             made.write(image([(RAM, data.read())], pages=256))
         return table, self.at("sum.img")

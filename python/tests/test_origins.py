@@ -1,5 +1,5 @@
-"""What a value was made of, and where a tag went: the sessions of cases/pasts.txt, whose replies a model wrote, what the debugger answers
-over examples and random programs, and the same as values."""
+"""What the monitor says, and of it what a value was made of and where a tag went: the sessions of cases/pasts.txt and cases/sessions.txt,
+whose replies a model wrote, what the debugger answers over examples and random programs, and the same as values."""
 import os
 import random
 import re
@@ -11,11 +11,12 @@ import support
 from support import PAGE, RAM, read
 from test_debugger import program
 from cherisim import SCRS, Cap, Machine, OutOfRange, Stop, Symbols
-from cherisim._monitor import Monitor
+from cherisim._monitor import _MOVES, Monitor
 from cherisim._names import _SHOWN
 from cherisim._origins import Link
 from cherisim._replay import Replay, Schedule
 from cherisim._symbols import opened
+from trying.reading import unescaped
 
 STEPS = 250  # that are done of each program
 # Of examples the options of the debugger, and the same as a schedule.
@@ -25,11 +26,11 @@ EXAMPLES = {"window": ((), Schedule()), "narrow": ((), Schedule()), "sealed": ((
 RANDOM = 4  # how many random programs
 
 
-def sessions():
+def sessions(name):
     """The conversations of steps alone: the text, its labels, and what is typed with what is answered."""
-    for block in read("cases", "pasts.txt").decode().split("\n\n"):
+    for block in read("cases", name).decode().split("\n\n"):
         text, labels = re.search(r"^@ ?(.*)$", block, re.MULTILINE), re.search(r"^&(.*)$", block, re.MULTILINE)
-        if text and not re.search(r"^(?:%|> (?:tick|byte) )", block, re.MULTILINE):
+        if text and not re.search(r"^(?:%|> (?:tick|byte) .*\nevents)", block, re.MULTILINE):
             rows = [(name, int(at, 16)) for name, at in (word.split("=") for word in (labels[1] if labels else "").split())]
             yield text[1].replace("; ", "\n"), Symbols(rows), re.findall(r"^> (.*)\n((?:[^@&<>].*\n)*)", block + "\n", re.MULTILINE)
 
@@ -38,7 +39,7 @@ class Sessions(unittest.TestCase):
     def test_cases(self):
         """What the debugger has to answer: each session's steps are gone to, and the monitor is asked the same there."""
         count = 0
-        for text, symbols, talk in sessions():
+        for text, symbols, talk in (*sessions("pasts.txt"), *sessions("sessions.txt")):
             replay, events = Replay(Machine(text=text, symbols=symbols)), 0
             monitor = Monitor(replay)
             for typed, reply in talk:
@@ -46,10 +47,11 @@ class Sessions(unittest.TestCase):
                 if moved:
                     events += int(moved[1])
                     replay.go_to(events)
-                elif typed.startswith(("origin ", "lost ")):
-                    self.assertEqual(monitor.answer(typed), reply, f"{text}\n{typed} after step {replay.n}")
+                elif not re.match(rf"[ \t\r]*(?:{'|'.join(_MOVES)}|ago|help|quit|stops?)(?![^ \t\r])", unescaped(typed).decode("latin-1")):
+                    said = monitor.answer(unescaped(typed).decode("latin-1"))
+                    self.assertEqual(said, reply, f"{text}\n{typed} after step {replay.n}")
                     count += 1
-        self.assertGreater(count, 600)
+        self.assertGreater(count, 1400)
 
 
 @unittest.skipUnless(support.has_program(), support.NO_PROGRAM)

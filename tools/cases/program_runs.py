@@ -8,6 +8,8 @@ from cases.sessions import ECHO_THREE
 from model.devices import RAM
 from model.listings import with_names
 from model.images import FIRST, header, section
+from model.texts import machine_of
+from model.unhandled import ending
 from model.words import SPACE
 
 HALTS_WITH_7 = "lui a1, 0x100; addi a0, zero, 7; sd a0, 0(a1)"
@@ -119,7 +121,7 @@ def trapped():
     yield case("run end.img 4", [f"end.img {quoted(start)}"], 1, "open end.img", b"",
                told(4, nowhere, "first", f"instruction access fault, mtval {RAM + 4096:016x}", 4096, 2,
                     [f"no RAM at {RAM + 4096:016x}"] + since(2)))
-    yield "# a trap is handled as soon as a step after it is no trap: the last is told, as the registers then hold it"
+    yield "# where the last step is no trap, the last that was taken is told, as the registers then hold it"
     yield from runs(4, IS_HANDLED, f"{RAM + 24:016x}", "first", call, 12, 4)
     yield from runs(5, IS_HANDLED, f"{RAM + 28:016x}", "last", call, 12)
     yield from runs(9, IS_HANDLED, f"{RAM + 16:016x}", "last", call, 16)
@@ -140,6 +142,59 @@ def trapped():
     whole = told(1, nowhere, "first", call, 0, 1)
     for count in (0, 1, whole.index("\n") + 1, len(whole) - 1):
         yield case("run trap.img 1", [ecall, f"errors {count}"], 1, "open trap.img", b"", whole[:count])
+    yield from caused()
+
+
+SETS_HANDLER = "la a0, handler; csrrw zero, mtvec, a0"
+ENDS_HANDLER = "csrrw zero, mtvec, zero"
+GOES_ON = "csrrs a1, mepc, zero; addi a1, a1, 4; csrrw zero, mepc, a1; mret"
+# The handler does twenty steps, and then traps itself.
+HANDLER_TRAPS = f"{SETS_HANDLER}; {LOADS_PAST_THE_END}; handler: {'nop; ' * 20}{LOADS_BY_NULL}"
+# The handler's first instruction traps.
+HANDLER_TRAPS_AT_ONCE = f"{SETS_HANDLER}; ecall; handler: .word 0"
+# The handler of a violation calls the environment, which the handler also serves, and goes on with this.
+CALLS_WITHIN = ("csrrs a1, mcause, zero; addi a2, zero, 11; beq a1, a2, past; csrrs a3, mepc, zero; ecall; {0}; csrrw zero, mepc, a3; "
+                f"past: {GOES_ON}")
+NESTED_RETURNS = f"{SETS_HANDLER}; {LOADS_BY_NULL}; {ENDS_HANDLER}; ecall; handler: {CALLS_WITHIN.format('nop')}"
+NESTED_TRAPS_AFTER = f"{SETS_HANDLER}; {LOADS_BY_NULL}; handler: {CALLS_WITHIN.format(f'{ENDS_HANDLER}; lb.cap a0, (ca4)')}"
+# Code with 64 bytes of PCC, or all of them without one permission, calls the environment; the handler leaves by a jump.
+NARROW, WITHOUT = "csetboundsimm ca0, ca0, 64", "addi a3, zero, -1; slli a3, a3, 63; srli a3, a3, 48; xori a3, a3, -1; candperm ca0, ca0, a3"
+JUMPS_IN = "cspecialrw ca0, pcc, cnull; la a1, inside; csetaddr ca0, ca0, a1; {0}; jalr.cap cnull, ca0"
+JUMPS_BACK = f"handler: {ENDS_HANDLER}; cincoffsetimm ca2, ca0, 8; jalr.cap cnull, ca2"
+JUMPS_ELSEWHERE = (f"handler: {ENDS_HANDLER}; cspecialrw ca2, pcc, cnull; la a3, other; csetaddr ca2, ca2, a3; csetboundsimm ca2, ca2, 32; "
+                   f"jalr.cap cnull, ca2; other: nop; {LOADS_BY_NULL}")
+
+
+def left_by(jump, levels=NARROW, goes_on="nop; "):
+    """A text whose handler is left by a jump out of it, and of what was called before it, which goes on with this and then traps."""
+    return f"{SETS_HANDLER}; {JUMPS_IN.format(levels)}; inside: nop; ecall; {goes_on}{LOADS_BY_NULL}; {jump}"
+
+
+def caused():
+    """The first trap that is open, by the model, and the last where that is another."""
+    def runs(words, *counts):
+        for steps in counts:
+            yield case(f"run trap.img {steps}", [file_of("trap.img", words)], 1, "open trap.img", b"",
+                       f"cherisim: not halted\n{ending(machine_of(words), steps)}")
+
+    yield "# a handler that traps itself after twenty steps, for ever: the first trap is told with the last, where the last step was one"
+    yield from runs(HANDLER_TRAPS, 7, 27, 28, 29, 48, 49, 994, 1000)
+    yield "# one whose first instruction traps: each step is a trap, and none of the fetch"
+    yield from runs(HANDLER_TRAPS_AT_ONCE, 4, 5, 9)
+    yield "# an MRET returns from the last that is open: in a handler that then returns itself, and in one that then traps"
+    yield from runs(NESTED_RETURNS, 4, 9, 16, 17, 22, 24, 27)
+    yield from runs(NESTED_TRAPS_AFTER, 9, 16, 18, 20)
+    yield "# an MRET before any trap returns from none"
+    yield from runs("la a0, main; csrrw zero, mepc, a0; mret; nop; main: ecall", 5, 6)
+    yield "# a handler that leaves by a jump to the level where the trap was taken, in bounds or in permissions"
+    for levels in (NARROW, WITHOUT):
+        first = 10 + (levels == WITHOUT) * 4
+        yield from runs(left_by(JUMPS_BACK, levels), *(first + more for more in (1, 4, 5, 6, 8)))
+    yield "# where the step there is a trap, and where the jump is to another level, the first trap stays open"
+    yield from runs(left_by(JUMPS_BACK, goes_on=""), 15, 16)
+    yield from runs(left_by(JUMPS_ELSEWHERE), 18, 19, 20, 21)
+    yield "# at the level of the trap's entry a jump out of the handler is no return"
+    yield from runs(f"{SETS_HANDLER}; ecall; handler: j on; nop; on: {ENDS_HANDLER}; {LOADS_BY_NULL}", 4, 6, 7, 9)
 
 
 # The handler of a load by a capability register that is null.

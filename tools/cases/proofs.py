@@ -9,7 +9,7 @@ from cases.program_lines import BAD, FILE, NO_IMAGE, case, refused, table
 from cases.quoting import quoted
 from cases.watched import met
 from model import policy, proving
-from model.devices import HALT, RAM, TRANSMIT
+from model.devices import HALT, RAM, TIMER_COMPARE, TRANSMIT
 from model.listings import table_text
 from model.rights import (ACCESS_SYSTEM_REGISTERS, CINVOKE, EXECUTE, GLOBAL, LOAD, LOAD_CAPABILITY, SEAL, STORE, STORE_CAPABILITY,
                           STORE_LOCAL, UNSEAL)
@@ -23,13 +23,14 @@ GIVES_UP = ("cspecialrw cnull, mtcc, cra", "cspecialrw cnull, mepcc, cra", "cspe
 STEPS, RUNS = 80, 12
 
 
-def kernel(*held, then=(), before=(), last=GIVES_UP, leaves="cjalr cnull, 0(cra)", code=CALL, block=BLOCK, data=()):
+def kernel(*held, then=(), before=(), last=GIVES_UP, leaves="cjalr cnull, 0(cra)", code=CALL, block=BLOCK, data=(), trap=()):
     """A kernel that loads what its compartment gets, does `before` with root in ca0, gives up what it has itself, and jumps into a page
-    of its compartment."""
+    of its compartment. Where it handles traps, it has the code of `trap`, aligned to 16 bytes."""
     given = [("cra", "code", 0x80, code), ("cs0", "data", 64, block), *held]
     loads = [f"clc {name}, {GIVEN - RAM + 16 * number}(ca0)" for number, (name, *_) in enumerate(given)]
     caps = [f".cap {first}, {length}, {perms:#x}, {int(perms & EXECUTE != 0)}" for _, first, length, perms in given]
-    lines = ["start: cspecialrw ca0, pcc, cnull", *loads, *before, *last, leaves]
+    entered = [".align 4", "trap: " + trap[0], *trap[1:]] if trap else []
+    lines = ["start: cspecialrw ca0, pcc, cnull", *loads, *before, *last, leaves, *entered]
     return "\n".join([".mode 1", *lines, f".org {CODE:#x}", "code: " + (then or ("nop",))[0], *then[1:], f".org {GIVEN:#x}",
                       "given: " + caps[0], *caps[1:], f".org {DATA:#x}", "data: .zero 64", *data])
 
@@ -147,11 +148,74 @@ def given():
     yield unshown(kernel(before=("cspecialrw cnull, mtdc, ca0",)), WHOLE, "system\n  held  mtdc")
     yield "# through a sentry that leads back into the kernel, in a register or where traps go; and through a pair"
     yield unshown(kernel(before=("csealentry ct2, ca0", "cspecialrw cnull, mtcc, ct2", "cmove ct2, cnull"), last=GIVES_UP[1:]), WHOLE,
-                  "system\n  held  behind a door")
+                  "isn't followed at 0000000080000000 <start>")
     yield unshown(kernel(before=("csealentry cs1, ca0",)), WHOLE, "system\n  held  behind a door")
     yield unshown(kernel(("cs1", "code", 0x80, CALL | CINVOKE), ("cs2", "0x80000000", 16, LOAD | CINVOKE),
                          before=(*sealed("cs1", 7), *sealed("cs2", 7))), WHOLE.replace("types none", "types 7"),
                   "line 2: load\n  held  behind a door")
+
+
+# A kernel that traps enter again: MTCC is its own code, MTDC what it needs there, or MScratchC.
+ENTERED = ("cla ct1, trap", "cspecialrw cnull, mtcc, ct1", "cmove ct1, cnull")
+KEPT = ("cspecialrw cnull, mtdc, ct2", "cmove ct2, cnull")
+SWAPPED = ("cspecialrw cnull, mscratchc, ct2", "cmove ct2, cnull")
+SKIPS = ("cspecialrw ct1, mepcc, cnull", "cincoffsetimm ct1, ct1, 4", "cspecialrw cnull, mepcc, ct1", "cmove ct1, cnull", "mret")
+
+
+def handler(trap, *held, before=(), **how):
+    """A kernel whose code at `trap` each trap enters."""
+    return kernel(*held, before=(*ENTERED, *before), last=GIVES_UP[1:], trap=trap, **how)
+
+
+def entered():
+    halt, console, compare = ("ct2", str(HALT), 8, STORE), ("ct2", str(TRANSMIT), 1, STORE), ("ct2", str(TIMER_COMPARE), 8, STORE)
+    root = ("cmove ct2, ca0",)
+    yield "# a kernel that each trap enters: it halts the machine, which its compartment may not"
+    yield holds(handler(("cspecialrw ct2, mtdc, cnull", "csd zero, 0(ct2)"), halt, before=KEPT), WHOLE)
+    yield "# it goes on after the instruction that trapped; it begins the compartment anew"
+    yield holds(handler(SKIPS), WHOLE)
+    yield holds(handler(("cspecialrw ct2, mtdc, cnull", "cspecialrw cnull, mepcc, ct2", "mret"), ("ct2", "code", 0x80, CALL), before=KEPT),
+                WHOLE)
+    yield "# it sends what is in a register, through MScratchC, and gives back what it took; it lets the timer's interrupt in, and stops it"
+    yield holds(handler(("cspecialrw ct2, mscratchc, ct2", "csb a0, 0(ct2)", "cspecialrw ct2, mscratchc, ct2", *SKIPS), console,
+                        before=SWAPPED), WHOLE)
+    yield holds(handler(("cspecialrw ct2, mtdc, cnull", "addi t1, zero, -1", "csd t1, 0(ct2)", "cmove ct2, cnull", "mret"), compare,
+                        before=(*KEPT, "addi t1, zero, 128", "csrrs zero, mstatus, t1", "csrrs zero, mie, t1"), leaves="mret"), WHOLE)
+    yield "# what it computes of unknown numbers and capabilities stays of the set; what it loads of its own is exact"
+    yield holds(handler(("add t1, a0, a1", "mul t1, t1, a2", "candperm ct2, cs0, t1", "csetaddr ct3, ct2, t1", "cgetlen t4, ct3", *SKIPS)),
+                WHOLE)
+    yield holds(handler(("cla ct1, given", "cld t2, 0(ct1)", "beq t2, zero, trap", "clc ct1, 0(ct1)", "cspecialrw cnull, mepcc, ct1",
+                         "mret")), WHOLE)
+    yield "# it leaves root in a register, in one that it made, or in MEPCC; what it took from MScratchC isn't given back"
+    yield unshown(handler(("cspecialrw ct2, mtdc, cnull", "mret"), before=(*root, *KEPT)), WHOLE, "returns\n  held  ct2")
+    yield unshown(handler(("auipc t3, 0", "mret")), WHOLE, "returns\n  held  ct3")
+    yield unshown(handler(("auipc t3, 0", "cspecialrw cnull, mepcc, ct3", "cmove ct3, cnull", "mret")), WHOLE, "returns\n  held  mepcc")
+    yield unshown(handler(("cspecialrw ct2, mscratchc, ct2", "mret")), WHOLE, "returns\n  held  mscratchc")
+    yield "# it makes something of root by what is unknown; it seals and unseals by it"
+    yield unshown(handler(("cspecialrw ct2, mtdc, cnull", "csetaddr ct2, ct2, a0", "mret"), before=(*root, *KEPT)), WHOLE,
+                  "isn't followed at 0000000080000044")
+    yield unshown(handler(("cspecialrw ct2, mtdc, cnull", "cseal cs0, cs0, ct2", "mret"), ("ct2", "7", 1, SEAL), before=KEPT), WHOLE,
+                  "isn't followed at")
+    yield unshown(handler(("cspecialrw ct2, mtdc, cnull", "cunseal cs0, cs0, ct2", "mret"), ("ct2", "7", 1, UNSEAL), before=KEPT), WHOLE,
+                  "isn't followed at")
+    yield "# it stores a capability, or a number, into RAM; its code, or what it loads, lies where the compartment may store"
+    yield unshown(handler(("cspecialrw ct2, mtdc, cnull", "csc cs0, 0(ct2)", "mret"), ("ct2", "data", 64, BLOCK), before=KEPT), WHOLE,
+                  "isn't followed at")
+    yield unshown(handler(("cspecialrw ct2, mtdc, cnull", "csd zero, 0(ct2)", "mret"), ("ct2", "data", 64, BLOCK), before=KEPT), WHOLE,
+                  "isn't followed at")
+    yield unshown(handler(SKIPS, ("cs1", "trap", 16, STORE)), WHOLE.replace("store within data", "store within trap..+16 data"),
+                  "fetches any code at 0000000080000030 <trap>")
+    yield unshown(handler(("cspecialrw ct2, mtdc, cnull", "cld t1, 0(ct2)", "mret"), ("ct2", "data", 64, LOAD), before=KEPT), WHOLE,
+                  "isn't followed at")
+    yield "# a branch, a jump, an access by what is unknown; a trap in a trap; a register of control and status; DDC"
+    for row in ("beq a0, zero, trap", "cjalr cnull, 0(cra)", "csb zero, 0(cs0)", "ecall", "csrrs t0, mcause, zero",
+                "cspecialrw ct0, ddc, cnull"):
+        yield unshown(handler((row, "mret")), WHOLE, "isn't followed at 0000000080000030 <trap>")
+    yield "# interrupts with entries of their own; a rule about its code; a trap that never ends; what the compartment holds breaks a rule"
+    yield unshown(handler(SKIPS, before=("csrrsi zero, mtvec, 1",)), WHOLE, "isn't followed at 0000000080000031")
+    yield unshown(handler(SKIPS), WHOLE + "when pc in trap..+4: halt no\n", "line 3: applies at 0000000080000030 <trap>")
+    yield unshown(handler(("j trap",)), WHOLE, "more than 500 steps", 500)
+    yield unshown(handler(SKIPS, ("cs1", "data", 80, STORE)), WHOLE, "line 2: store\n  held  cs1")
 
 
 def begun():
@@ -205,4 +269,4 @@ def faults():
 
 def files():
     yield "proofs.txt", ["# a command line, files and streams => the status, what is opened and made, sent, told, and what stands in the file made",
-                         *shown(), *given(), *begun(), *faults()]
+                         *shown(), *given(), *entered(), *begun(), *faults()]

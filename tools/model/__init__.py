@@ -18,6 +18,7 @@ has a name has it in one module.
     schedules.py     runs on a schedule
     sessions.py      sessions of the debugger (docs/DEBUGGER.md)
     recorded.py      steps that are recorded: how each made what it wrote, and its line of a trace (docs/TRACE.md)
+    unhandled.py     the trap that nothing handled, and where a run ended (docs/DEBUGGER.md)
     origins.py       where a value came from and where its tag went, over a recorded run
     pasts.py         sessions that go back, and ask for that
     reach.py         what code can reach (docs/AUTHORITY.md)

@@ -3,17 +3,21 @@
 The image's own code is done step by step up to code in the ranges, while each step is the same in every run. There all that the registers
 lead to, the special ones and doors too, must neither seal nor open the system, and break no rule: from then on
 code makes of it nothing else, and a trap leads to nothing else.
+
+Where a trap enters the image's own code, the special registers needn't be of it: that code is done once, from its entry to its end. What
+any code may have left is unknown there, and what it leaves for any code must be unknown or be of it.
 """
 from typing import NamedTuple, Optional
 
 from model import policy, reach
-from model.capabilities import base, has, is_unsealed, top, with_fields
+from model.capabilities import base, flag, has, is_unsealed, top, with_fields
 from model.devices import HALT, RAM
+from model.faults import DDC
 from model.listings import named_address
-from model.machine import DOES, MIE, Machine
+from model.machine import DOES, MIE, MPIE, Machine, leads_on, opened, placed_at
 from model.memory import WORD
-from model.names import CAPABILITY_NAMES, CSR_NAMES, SPECIALS
-from model.rights import SEAL, UNSEAL, UNSEALED
+from model.names import CAPABILITY_NAMES, CSR_NAMES, SCR_NAMES, SPECIALS
+from model.rights import SEAL, STORE, UNSEAL, UNSEALED
 from model.row_forms import FORM
 from model.rows import made, plain_words, slots
 from model.words import SPACE
@@ -97,10 +101,11 @@ def begun(machine, any_code, rules, most, labels):
 
 # ---- any code
 
-def held_by(machine):
-    """What registers lead to, the special ones too, and through doors, which are opened one after the other."""
+def held_by(machine, specials=True):
+    """What registers lead to, the special ones too where a trap leaves them to any code, and through doors, which are opened one after the
+    other."""
     state, behind = machine.state(), []
-    roots = [*state.registers, state.pcc, state.ddc, *state.specials]
+    roots = [*state.registers, state.pcc, state.ddc, *(state.specials if specials else ())]
     while True:
         found = [Held(value, name) for value, name in zip(roots, ROOTS) if value[2]] + [Held(value, "behind a door") for value in behind]
         places = set()
@@ -140,6 +145,117 @@ def check(machine, any_code, rules, found, labels):
                     raise Unshown(f"line {rule.line}: {name}\n  held  {where(place)}")
 
 
+# ---- the kernel's code, which traps enter
+
+def entry_of(machine):
+    """Where a trap enters, and whether that is the image's own code."""
+    mtcc = machine.special["mtcc"]
+    return placed_at(opened(mtcc), mtcc[1] & ~3)
+
+
+def enters_own_code(machine, any_code):
+    entry = entry_of(machine)
+    return leads_on(entry)[1] is None and machine.memory.holds(entry[1], 4) and not touches(any_code, entry[1], 1)
+
+
+def is_known_to(machine, insn, keeps):
+    """Whether an instruction with exact operands is the same in every run: it names neither DDC nor a special register, loads only what is
+    kept, stores into no RAM, and jumps through no capability."""
+    does, row = DOES[insn.row], insn.row
+    if does in (Machine.do_load, Machine.do_lc):
+        number, _, address = machine.access(insn)
+        size = OF_MEMORY[does]
+        return number != DDC and machine.memory.holds(address, size) and keeps(address, size)
+    if does is Machine.do_capability:
+        return row not in ("ctestsubset", "cunseal")
+    if does is Machine.do_jalr:
+        return not flag(machine.at)
+    return does in (Machine.do_integer, Machine.do_immediate, Machine.do_upper, Machine.do_branch, Machine.do_jal, Machine.do_nothing)
+
+
+def after_special(insn, unknown):
+    """What is unknown after a special register is read, and perhaps replaced."""
+    name = SCR_NAMES.get(insn.rs2)
+    if name == "mtdc" and not insn.rs1:
+        return unknown - {insn.rd}
+    if name not in ("mscratchc", "mepcc"):
+        return None
+    later = unknown - {insn.rd} | ({insn.rd} if name in unknown else set())
+    return later if not insn.rs1 else later - {name} | ({name} if insn.rs1 in unknown else set())
+
+
+def followed(machine, insn, unknown, keeps):
+    """What is unknown after an instruction of the kernel's code, or None where it isn't followed."""
+    machine = machine.copy()
+    machine.at = machine.special["pcc"]
+    does, operands = DOES[insn.row], {insn.rs1, insn.rs2}
+    trapped = machine.copy().step().trap is not None
+    if not trapped and not operands & unknown and is_known_to(machine, insn, keeps):
+        return unknown - {insn.rd}
+    among = all(number in unknown or not machine.registers[number][2] for number in operands)
+    if does in (Machine.do_integer, Machine.do_immediate) or does is Machine.do_capability and insn.row != "cunseal" and among:
+        return unknown | {insn.rd}
+    if does is Machine.do_cspecialrw and not trapped:
+        return after_special(insn, unknown)
+    if does is Machine.do_store and insn.rs1 not in unknown and not trapped:
+        number, _, address = machine.access(insn)
+        return unknown if number != DDC and not machine.memory.holds(address, 1) else None
+    return None
+
+
+def check_return(machine, values, unknown, kept):
+    """That the return from a trap leaves any code nothing but what is of its set, and MScratchC as it was."""
+    for place, value in [*zip(range(32), machine.registers), ("mepcc", machine.special["mepcc"])]:
+        if place not in unknown and value[2] and value not in values:
+            raise Unshown(f"returns\n  held  {place if place == 'mepcc' else CAPABILITY_NAMES[place]}")
+    if "mscratchc" in unknown or machine.special["mscratchc"] != kept:
+        raise Unshown("returns\n  held  mscratchc")
+
+
+def handled(machine, any_code, rules, found, most, labels):
+    """How many steps the kernel's code takes from a trap's entry up to its return, or until the machine is halted."""
+    values, kept = [value for value, _ in found], machine.special["mscratchc"]
+
+    def keeps(address, size):
+        return not touches(any_code, address, size) and not any(
+            is_unsealed(value) and has(value, STORE) and base(value) < address + size and address < top(value) for value in values)
+    if machine.special["mtcc"][1] % 4:
+        raise Unshown(f"isn't followed at {named_address(machine.special['mtcc'][1], labels)}")
+    machine.special["pcc"] = entry_of(machine)
+    machine.csrs["mstatus"] &= ~(MIE | MPIE)
+    unknown = {*range(1, 32), "mepcc"}
+    for steps in range(most):
+        at = named_address(machine.pc, labels)
+        if not keeps(machine.pc, 4):
+            raise Unshown(f"fetches any code at {at}")
+        for rule in rules:
+            if policy.applies(rule, machine.fetched_at()):
+                raise Unshown(f"line {rule.line}: applies at {at}")
+        if machine.halted is not None:
+            return steps
+        insn = machine.next_insn() if machine.fetched_at() is not None else None
+        if insn and insn.row == "mret" and machine.copy().step().trap is None:
+            check_return(machine, values, unknown, kept)
+            return steps
+        unknown = insn and followed(machine, insn, unknown, keeps)
+        if unknown is None:
+            raise Unshown(f"isn't followed at {at}")
+        unknown -= {0}
+        machine.step()
+    raise Unshown(f"more than {most} steps")
+
+
+# ---- all of it
+
+def guarded(machine, any_code, rules, steps, most, labels):
+    """What a proof comes to where traps enter the image's own code."""
+    if machine.halted is not None:
+        raise Unshown(f"halts at {named_address(machine.pc, labels)}")
+    found = held_by(machine, specials=False)
+    check(machine, any_code, rules, found, labels)
+    return Shown(None, steps + handled(machine, any_code, rules, found, most, labels), len(found))
+
+
 def shown(machine, any_code, rules, most=10**6, labels=()):
     """What a proof comes to of a machine, which is left where any code begins."""
     try:
@@ -148,8 +264,13 @@ def shown(machine, any_code, rules, most=10**6, labels=()):
                 raise Unshown(f"line {rule.line}: or caller")
         steps = begun(machine, any_code, rules, most, labels)
         found = held_by(machine)
-        check(machine, any_code, rules, found, labels)
-        return Shown(None, steps, len(found))
+        try:
+            check(machine, any_code, rules, found, labels)
+            return Shown(None, steps, len(found))
+        except Unshown:
+            if not enters_own_code(machine, any_code):
+                raise
+        return guarded(machine, any_code, rules, steps, most, labels)
     except Unshown as why:
         return Shown(*why.args)
 

@@ -85,8 +85,9 @@ REST = [
     ("sessions",
      "debug_commands/specs/Address, Command; debugger/specs/SessionState, Stepping, Reaching, Reply, Answers, Conversation, Talk, OnSchedule"),
     ("what commands do with files",
-     "commands/specs/Files, Programs, Loading, Assembling, Imaging, Bounding, Listing, Running, Watching, Auditing, Proving, Overwriting; "
-     "program/specs/Debugging, Carrying"),
+     "commands/specs/Files, Programs, Loading, Assembling, Imaging, Bounding, Listing, Running, Watching, RunFaults, Auditing, Proving, "
+     "Overwriting, FaultTexts; "
+     "program/specs/Debugging, Telling, Carrying"),
     ("capabilities and the machine for C",
      "c_types/specs/Halves, Words; cheri_c/specs/Insns; "
      "cherisim_c/specs/Status, Made, Running, Stepping, Reaching, Questions, Refusals, Policies"),

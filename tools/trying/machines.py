@@ -109,10 +109,14 @@ class Machine:
 
     # ---- what it holds
 
-    def reg(self, n):
-        value = Cap()
-        must(self.library.cherisim_reg(self.at, n, byref(value)))
+    def got(self, call, kind, *given):
+        """What a call puts into a value of a kind."""
+        value = kind()
+        must(call(self.at, *given, byref(value)))
         return value
+
+    def reg(self, n):
+        return self.got(self.library.cherisim_reg, Cap, n)
 
     def regs(self):
         values = (Cap * 32)()
@@ -120,9 +124,7 @@ class Machine:
         return values
 
     def scr(self, n):
-        value = Cap()
-        must(self.library.cherisim_scr(self.at, n, byref(value)))
-        return value
+        return self.got(self.library.cherisim_scr, Cap, n)
 
     def csr(self, n):
         must(self.library.cherisim_csr(self.at, n, byref(self.number_cell)))
@@ -133,9 +135,7 @@ class Machine:
         return self.cap_cell.address
 
     def pages(self):
-        pages = c_uint32()
-        must(self.library.cherisim_pages(self.at, byref(pages)))
-        return pages.value
+        return self.got(self.library.cherisim_pages, c_uint32).value
 
     def read(self, address, length):
         buffer = (c_uint8 * max(length, 1))()
@@ -143,9 +143,7 @@ class Machine:
         return bytes(buffer)[:length]
 
     def read_cap(self, address):
-        value = Cap()
-        must(self.library.cherisim_read_cap(self.at, address, byref(value)))
-        return value
+        return self.got(self.library.cherisim_read_cap, Cap, address)
 
     def ram(self):
         """All of RAM."""
@@ -166,14 +164,11 @@ class Machine:
 
     def halted(self):
         """The number with which it is halted, or None."""
-        halted = Halted()
-        must(self.library.cherisim_halted(self.at, byref(halted)))
+        halted = self.got(self.library.cherisim_halted, Halted)
         return halted.number if halted.halted else None
 
     def timer(self):
-        timer = Timer()
-        must(self.library.cherisim_timer(self.at, byref(timer)))
-        return timer
+        return self.got(self.library.cherisim_timer, Timer)
 
     def console(self):
         """The bytes that wait, whether one was lost, and whether a byte that waits interrupts."""
@@ -201,9 +196,7 @@ class Machine:
     # ---- questions
 
     def next_ends(self):
-        why = c_uint32()
-        must(self.library.cherisim_next_ends(self.at, byref(why)))
-        return why.value
+        return self.got(self.library.cherisim_next_ends, c_uint32).value
 
     def why(self):
         """The text that says what the next step will do, and why."""

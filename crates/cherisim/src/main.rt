@@ -1,12 +1,14 @@
 //! A CHERI-RISC-V machine on the command line.
 #![tactic(auto)]
 
+ghost use Rattle.std.specs.Prelude.{◌-◌, ◌^◌, ◌<◌};
+
 mod disk;
 mod pipe;
 
 use disk::Disk;
 use pipe::Pipe;
-use program::{ProgramFault, refuse, status_of, tell_fault};
+use program::{ProgramFault, Sink, Writing, refuse, status_of, tell_fault};
 use std::process::ExitCode;
 use std::{env, io};
 
@@ -20,24 +22,28 @@ fn words_of(rt: &HostRuntime) -> io::Result<Vec<String>> {
 }
 
 /// Tells why the words could not be read, and answers the status.
-fn tell_error<E: io::Write>(errors: &mut E, error: &io::Error) -> u8 {
+fn tell_error<E: Sink>(errors: &mut E, error: &io::Error) -> u8
+    requires { E.failed errors.old < 2 ^ 64 - 1 }
+{
     match error.kind() {
         io::ErrorKind::InvalidData => refuse(errors, NOT_UTF8),
-        io::ErrorKind::OutOfMemory => tell_fault(errors, &ProgramFault::Memory),
-        _ => tell_fault(errors, &ProgramFault::Words),
+        io::ErrorKind::OutOfMemory => tell_fault(errors, false, &ProgramFault::Memory),
+        _ => tell_fault(errors, false, &ProgramFault::Words),
     }
 }
 
 /// Does what the words of the command line ask, and answers the status.
 fn status(rt: &HostRuntime, words: &[String]) -> u8 {
-    let stderr = rt.stderr();
-    let mut errors = io::writer(&stderr);
     let mut texts = Vec::new(rt.alloc());
     for word in words {
         if texts.push(word.as_str()).is_err() {
-            return tell_fault(&mut errors, &ProgramFault::Memory);
+            let stderr = rt.stderr();
+            let mut errors = Writing::new(io::writer(&stderr));
+            return tell_fault(&mut errors, false, &ProgramFault::Memory);
         }
     }
+    let stderr = rt.stderr();
+    let mut errors = Writing::new(io::writer(&stderr));
     let mut disk = Disk::new(rt);
     let input = rt.reader();
     let output = Pipe::new(io::writer(rt));
@@ -47,7 +53,7 @@ fn status(rt: &HostRuntime, words: &[String]) -> u8 {
 fn main(rt: HostRuntime) -> io::Result<ExitCode> {
     let status = match words_of(&rt) {
         Ok(words) => status(&rt, &words),
-        Err(error) => tell_error(&mut io::writer(&rt.stderr()), &error),
+        Err(error) => tell_error(&mut Writing::new(io::writer(&rt.stderr())), &error),
     };
     Ok(ExitCode::from(status))
 }

@@ -21,7 +21,6 @@ use Rattle.schedules.specs.declared.schedule.Schedule.{Schedule}
 use Rattle.schedules.specs.Schedule.{IsPlaceOf, IsRunnable, events_before, is_halted, scheduled}
 use Rattle.steps.specs.State.{State}
 use Rattle.symbols.specs.Symbols.{Symbol, faulty_line, symbols_of}
-use Rattle.cherisim_c.specs.declared.policed.Policed.{Policed}
 use Rattle.cherisim_c.specs.declared.policed.Texts.{Texts}
 use Rattle.cherisim_c.specs.declared.types.Breach.{Breach}
 use Rattle.cherisim_c.specs.declared.types.Timetable.{Timetable}
@@ -40,13 +39,6 @@ pub record IsPolicyOf (labels text : List ℕ) (policy : Policy) : Type 0 where
 pub record AreTexts (labels text : List ℕ) (read : Texts) : Type 0 where
   pub policy : IsPolicyOf labels text read.policy
   pub symbols : read.symbols ≡ symbols_of labels
-
--- and with the schedule of a timetable
-pub record AreRead (labels text : List ℕ) (t : Timetable) (read : Policed) : Type 0 where
-  pub policy : IsPolicyOf labels text read.policy
-  pub symbols : read.symbols ≡ symbols_of labels
-  pub schedule : read.schedule ≡ schedule_of t
-  pub runnable : IsRunnable (schedule_of t)
 
 -- ---- where a policy stops a run
 
@@ -104,14 +96,17 @@ audit_of lines symbols rules schedule input s =
     if is_halted s then [] else audit_text symbols lines rules (scheduled schedule input s) s
 
 -- the same, where the rules are those of a text
-abbrev pub TellsOf : List ℕ → Policed → List ℕ → State → List ℕ → Type 0
-TellsOf text read input s told =
+abbrev pub TellsOf : List ℕ → Texts → Schedule → List ℕ → State → List ℕ → Type 0
+TellsOf text read schedule input s told =
     (lines : List RuleLine) × AreLinesOf text read.policy.lines.items lines
-    × (told ≡ audit_of lines read.symbols (terms_of read.policy.rules.items) read.schedule input s)
+    × (told ≡ audit_of lines read.symbols (terms_of read.policy.rules.items) schedule input s)
 
--- A text is what an audit of a run by the policy of a text tells.
-abbrev pub IsAuditOf : List ℕ → List ℕ → Timetable → List ℕ → State → List ℕ → Type 0
-IsAuditOf labels text t input s told = (read : Policed) × AreRead labels text t read × TellsOf text read input s told
+-- A text is what an audit of a run by the policy of a text tells, on a timetable by which a machine can run.
+pub record IsAuditOf (labels text : List ℕ) (t : Timetable) (input : List ℕ) (s : State) (told : List ℕ) : Type 0 where
+  pub read : Texts
+  pub texts : AreTexts labels text read
+  pub runnable : IsRunnable (schedule_of t)
+  pub tells : TellsOf text read (schedule_of t) input s told
 
 -- ---- a proof
 

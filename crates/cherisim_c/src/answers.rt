@@ -61,29 +61,8 @@ fn answer_of(first: Option<usize>) -> Answer
     }
 }
 
-/// Whether the code of a machine may do something up to the next trap, unsealing or sealed jump.
-fn asked(alloc: Global, machine: &Machine<WordCap>, may: May) -> Result<Answer, AllocError>
-    ensures answer { IfOk result (λ answer. answer ≡ answer_of (first_that may (members_in machine.now))) }
-    ensures reachable { IfOk result (λ answer. AreReachable machine.now (values_of (members_in machine.now))) }
-{
-    let reach = reach_of(alloc, machine)?;
-    Ok(answer_of(first_that(reach.members(), may)))
-}
-
-/// The same through doors, up to the next trap or unsealing.
-fn asked_through_doors(
-    alloc: Global,
-    machine: &Machine<WordCap>,
-    may: May,
-) -> Result<Answer, AllocError>
-    ensures answer { IfOk result (λ answer. answer ≡ answer_of (first_that may (members_through machine.now))) }
-    ensures reachable { IfOk result (λ answer. AreReachableThroughDoors machine.now (values_of (members_through machine.now))) }
-{
-    let found = through_of(alloc, machine)?;
-    Ok(answer_of(first_that(&found.members, may)))
-}
-
-/// The one or the other.
+/// Whether the code of a machine may do something up to the next trap, unsealing or sealed jump, or through doors up to the next trap or
+/// unsealing.
 fn asked_up_to(
     alloc: Global,
     machine: &Machine<WordCap>,
@@ -94,9 +73,11 @@ fn asked_up_to(
     ensures reachable { IfOk result (λ answer. AreReachableUpTo doors machine.now (values_of (members_up_to doors machine.now))) }
 {
     if doors {
-        asked_through_doors(alloc, machine, may)
+        let found = through_of(alloc, machine)?;
+        Ok(answer_of(first_that(&found.members, may)))
     } else {
-        asked(alloc, machine, may)
+        let reach = reach_of(alloc, machine)?;
+        Ok(answer_of(first_that(reach.members(), may)))
     }
 }
 

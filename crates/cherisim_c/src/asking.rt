@@ -50,14 +50,16 @@ fn why_of(alloc: Global, machine: &Machine<WordCap>) -> Result<String, AllocErro
     Ok(text)
 }
 
-/// Copies a text into a buffer that is long enough.
-pub(crate) fn copy(text: &str, out: &mut [u8]) -> u32
+/// Copies a text into a buffer that is long enough, and says how long it is.
+pub(crate) fn copy(text: &str, out: &mut [u8], size: &mut u64) -> u32
     ensures only { (result ≡ 0) ⊎ (result ≡ full) }
-    ensures ok { result ≡ 0 → take (length text.now) out.new ≡ text.now }
-    ensures fits { result ≡ 0 → length text.now ≤ length out.new }
-    ensures full { result ≡ full → (length out.old < length text.now) × (out.new ≡ out.old) }
+    ensures size { size.new ≡ length text.now }
+    ensures ok { result ≡ 0 → take size.new out.new ≡ text.now }
+    ensures fits { result ≡ 0 → size.new ≤ length out.new }
+    ensures full { result ≡ full → (length out.old < size.new) × (out.new ≡ out.old) }
 {
     let bytes = text.as_bytes();
+    *size = bytes.len() as u64;
     if bytes.len() <= out.len() {
         out[..bytes.len()].copy_from_slice(bytes);
         OK
@@ -88,10 +90,7 @@ pub extern "C" fn cherisim_why(
             let told = why_of(alloc, &held);
             machine.put(held);
             match told {
-                Ok(told) => {
-                    *size = told.len() as u64;
-                    copy(told.as_str(), text)
-                }
+                Ok(told) => copy(told.as_str(), text, size),
                 Err(_) => NO_MEMORY,
             }
         }
@@ -139,7 +138,8 @@ pub extern "C" fn cherisim_trace(
     line: &mut u64,
 ) -> u32
     ensures state { machine.new.machine ≡ machine.old.machine }
-    ensures closed { machine.old.machine ≡ None → (result ≡ no_machine) × (text.new ≡ text.old) × (size.new ≡ size.old) }
+    ensures closed { machine.old.machine ≡ None → (result ≡ no_machine) × (line.new ≡ line.old) }
+    ensures same { 1 ≤ result → result < full → (text.new ≡ text.old) × (size.new ≡ size.old) }
     ensures ok { IfSome machine.old.machine (λ s. result ≡ 0 → (size.new ≡ length (step_line (symbols_of labels.now) number s))
         × (take size.new text.new ≡ step_line (symbols_of labels.now) number s)) }
     ensures full { IfSome machine.old.machine (λ s. result ≡ full → (size.new ≡ length (step_line (symbols_of labels.now) number s))
@@ -153,14 +153,8 @@ pub extern "C" fn cherisim_trace(
             let told = labelled_line(alloc, labels, &held, number);
             machine.put(held);
             match told {
-                Ok(shown) => {
-                    *size = shown.len() as u64;
-                    copy(shown.as_str(), text)
-                }
-                Err(refusal) => {
-                    *line = refusal.line();
-                    refusal.status()
-                }
+                Ok(shown) => copy(shown.as_str(), text, size),
+                Err(refusal) => refusal.report(line),
             }
         }
         None => NO_MACHINE,

@@ -9,7 +9,7 @@ ghost use Rattle.cherisim_c.specs.Status.{full, no_machine};
 
 use crate::asking::copy;
 use crate::handle::Handle;
-use crate::policed::{Policed, read_texts};
+use crate::policed::{Texts, read_labelled, schedule_of};
 use crate::policies::cloned;
 use crate::refusal::Refusal;
 use crate::status::NO_MACHINE;
@@ -17,6 +17,7 @@ use crate::types::Timetable;
 use breach_texts::RuleLine;
 use machine::Machine;
 use policy_audit::{audit_run, rule_lines};
+use schedules::Schedule;
 use std::alloc::{AllocError, Global};
 use word_cap::WordCap;
 
@@ -26,12 +27,13 @@ fn tell(
     alloc: Global,
     machine: &Machine<WordCap>,
     lines: &[RuleLine<'_>],
-    read: &Policed,
+    read: &Texts,
+    schedule: Schedule,
     input: &[u8],
 ) -> Result<(), AllocError>
-    requires { IsRunnable read.now.schedule }
+    requires { IsRunnable schedule }
     ensures { OnOk result (string_bytes told.new ≡ string_bytes told.old
-        ++ audit_of lines.now read.now.symbols (terms_of read.now.policy.rules.items) read.now.schedule input.now machine.now) }
+        ++ audit_of lines.now read.now.symbols (terms_of read.now.policy.rules.items) schedule input.now machine.now) }
 {
     if machine.halted().is_some() {
         return Ok(());
@@ -44,7 +46,7 @@ fn tell(
         &read.policy.rules,
         lines,
         &mut copy,
-        read.schedule,
+        schedule,
         input,
     ) {
         Ok(_) => Ok(()),
@@ -57,15 +59,16 @@ fn told_of(
     alloc: Global,
     machine: &Machine<WordCap>,
     text: &[u8],
-    read: &Policed,
+    read: &Texts,
+    schedule: Schedule,
     input: &[u8],
 ) -> Result<String, AllocError>
-    requires { IsRunnable read.now.schedule }
-    ensures { IfOk result (λ told. TellsOf text.now read.now input.now machine.now (string_bytes told)) }
+    requires { IsRunnable schedule }
+    ensures { IfOk result (λ told. TellsOf text.now read.now schedule input.now machine.now (string_bytes told)) }
 {
     let lines = rule_lines(alloc, text, &read.policy.lines)?;
     let mut told = String::new(alloc);
-    tell(&mut told, alloc, machine, &lines, read, input)?;
+    tell(&mut told, alloc, machine, &lines, read, schedule, input)?;
     Ok(told)
 }
 
@@ -81,8 +84,9 @@ fn audited(
     ensures ok { IfOk result (λ told. IsAuditOf labels.now text.now timetable input.now machine.now (string_bytes told)) }
     ensures err { IfErr result (IsRefusalOf labels.now text.now timetable) }
 {
-    let read = read_texts(alloc, labels, text, timetable)?;
-    match told_of(alloc, machine, text, &read, input) {
+    let schedule = schedule_of(timetable)?;
+    let read = read_labelled(alloc, labels, text)?;
+    match told_of(alloc, machine, text, &read, schedule, input) {
         Ok(told) => Ok(told),
         Err(_) => Err(Refusal::Memory),
     }
@@ -103,7 +107,8 @@ pub extern "C" fn cherisim_audit(
     line: &mut u64,
 ) -> u32
     ensures state { machine.new.machine ≡ machine.old.machine }
-    ensures closed { machine.old.machine ≡ None → (result ≡ no_machine) × (found.new ≡ found.old) × (size.new ≡ size.old) }
+    ensures closed { machine.old.machine ≡ None → (result ≡ no_machine) × (line.new ≡ line.old) }
+    ensures same { 1 ≤ result → result < full → (found.new ≡ found.old) × (size.new ≡ size.old) }
     ensures ok { IfSome machine.old.machine (λ s. result ≡ 0
         → IsAuditOf labels.now text.now timetable.now input.now s (take size.new found.new)) }
     ensures few { IfSome machine.old.machine (λ s. result ≡ 0 → size.new ≤ length found.new) }
@@ -119,14 +124,8 @@ pub extern "C" fn cherisim_audit(
             let told = audited(alloc, &held, labels, text, *timetable, input);
             machine.put(held);
             match told {
-                Ok(told) => {
-                    *size = told.len() as u64;
-                    copy(told.as_str(), found)
-                }
-                Err(refusal) => {
-                    *line = refusal.line();
-                    refusal.status()
-                }
+                Ok(told) => copy(told.as_str(), found, size),
+                Err(refusal) => refusal.report(line),
             }
         }
         None => NO_MACHINE,

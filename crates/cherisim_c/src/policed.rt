@@ -5,7 +5,7 @@ ghost use Rattle.policy_text.specs.Policy.{any_code_of, policy_of};
 ghost use Rattle.policy_text.specs.Seen.{seen};
 ghost use Rattle.schedules.specs.Schedule.{IsRunnable};
 ghost use Rattle.symbols.specs.Symbols.{faulty_line, symbols_of};
-ghost use Rattle.cherisim_c.specs.Policies.{AreRead, AreTexts};
+ghost use Rattle.cherisim_c.specs.Policies.{AreTexts};
 ghost use Rattle.cherisim_c.specs.Refusals.{schedule_of, IsLabelsRefusal, IsRefusalOf, IsTextsRefusal};
 
 use crate::refusal::Refusal;
@@ -20,14 +20,6 @@ use symbols::{Symbols, SymbolsFault, read_symbols};
 pub(crate) struct Texts {
     pub policy: Policy,
     pub symbols: Symbols,
-}
-
-/// A policy, the labels that it may name, and the schedule of a run.
-#[derive(Drop)]
-pub(crate) struct Policed {
-    pub policy: Policy,
-    pub symbols: Symbols,
-    pub schedule: Schedule,
 }
 
 /// The labels of a table.
@@ -68,7 +60,7 @@ fn is_runnable(schedule: Schedule) -> bool
 }
 
 /// The schedule of a timetable, if a machine can run by it.
-fn schedule_of(timetable: Timetable) -> Result<Schedule, Refusal>
+pub(crate) fn schedule_of(timetable: Timetable) -> Result<Schedule, Refusal>
     ensures ok { IfOk result (λ schedule. (schedule ≡ schedule_of timetable) × IsRunnable schedule) }
     ensures fault { IfErr result (λ refusal. (labels text : List ℕ) → IsRefusalOf labels text timetable refusal) }
 {
@@ -89,27 +81,6 @@ pub(crate) fn read_labelled(alloc: Global, labels: &[u8], text: &[u8]) -> Result
     let symbols = labels_of(alloc, labels)?;
     match policy_of(alloc, text, &symbols) {
         Ok(policy) => Ok(Texts { policy, symbols }),
-        Err(refusal) => Err(refusal),
-    }
-}
-
-/// What the texts and the timetable of a question by a policy say.
-pub(crate) fn read_texts(
-    alloc: Global,
-    labels: &[u8],
-    text: &[u8],
-    timetable: Timetable,
-) -> Result<Policed, Refusal>
-    ensures ok { IfOk result (AreRead labels.now text.now timetable) }
-    ensures err { IfErr result (IsRefusalOf labels.now text.now timetable) }
-{
-    let schedule = schedule_of(timetable)?;
-    match read_labelled(alloc, labels, text) {
-        Ok(Texts { policy, symbols }) => Ok(Policed {
-            policy,
-            symbols,
-            schedule,
-        }),
         Err(refusal) => Err(refusal),
     }
 }

@@ -8,7 +8,7 @@ ghost use Rattle.cherisim_c.specs.Refusals.{schedule_of, IsRefusalOf, IsRefusal}
 ghost use Rattle.cherisim_c.specs.Status.{no_machine};
 
 use crate::handle::Handle;
-use crate::policed::read_texts;
+use crate::policed::{read_labelled, schedule_of};
 use crate::refusal::Refusal;
 use crate::status::{NO_MACHINE, OK};
 use crate::types::{Breach, Timetable};
@@ -103,8 +103,9 @@ fn watched(
     ensures range { IfOk result (λ _. IsRunnable (schedule_of timetable)) }
     ensures err { IfErr result (IsRefusalOf labels.now text.now timetable) }
 {
-    let read = read_texts(alloc, labels, text, timetable)?;
-    let found = breach_ahead(alloc, machine, &read.policy.rules, read.schedule, input)?;
+    let schedule = schedule_of(timetable)?;
+    let read = read_labelled(alloc, labels, text)?;
+    let found = breach_ahead(alloc, machine, &read.policy.rules, schedule, input)?;
     Ok(breach_of(&read.policy.lines, found))
 }
 
@@ -122,7 +123,7 @@ pub extern "C" fn cherisim_watch(
     line: &mut u64,
 ) -> u32
     ensures state { machine.new.machine ≡ machine.old.machine }
-    ensures closed { machine.old.machine ≡ None → result ≡ no_machine }
+    ensures closed { machine.old.machine ≡ None → (result ≡ no_machine) × (line.new ≡ line.old) }
     ensures ok { IfSome machine.old.machine (λ s. result ≡ 0
         → IsBreachOf labels.now text.now (schedule_of timetable.now) input.now s breach.new) }
     ensures range { IfSome machine.old.machine (λ s. result ≡ 0 → IsRunnable (schedule_of timetable.now)) }
@@ -140,10 +141,7 @@ pub extern "C" fn cherisim_watch(
                     *breach = found;
                     OK
                 }
-                Err(refusal) => {
-                    *line = refusal.line();
-                    refusal.status()
-                }
+                Err(refusal) => refusal.report(line),
             }
         }
         None => NO_MACHINE,

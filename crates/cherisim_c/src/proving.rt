@@ -101,8 +101,8 @@ pub extern "C" fn cherisim_prove(
     line: &mut u64,
 ) -> u32
     ensures state { machine.new.machine ≡ machine.old.machine }
-    ensures closed { machine.old.machine ≡ None → (result ≡ no_machine) × (shown.new ≡ shown.old) × (found.new ≡ found.old)
-        × (size.new ≡ size.old) }
+    ensures closed { machine.old.machine ≡ None → (result ≡ no_machine) × (line.new ≡ line.old) }
+    ensures same { 1 ≤ result → result < full → (shown.new ≡ shown.old) × (found.new ≡ found.old) × (size.new ≡ size.old) }
     ensures ok { IfSome machine.old.machine (λ s. result ≡ 0
         → IsProofOf labels.now text.now s shown.new (take size.new found.new)) }
     ensures few { IfSome machine.old.machine (λ s. result ≡ 0 → size.new ≤ length found.new) }
@@ -120,13 +120,9 @@ pub extern "C" fn cherisim_prove(
             match proof {
                 Ok(proof) => {
                     *shown = proof.shown;
-                    *size = proof.told.len() as u64;
-                    copy(proof.told.as_str(), found)
+                    copy(proof.told.as_str(), found, size)
                 }
-                Err(refusal) => {
-                    *line = refusal.line();
-                    refusal.status()
-                }
+                Err(refusal) => refusal.report(line),
             }
         }
         None => NO_MACHINE,

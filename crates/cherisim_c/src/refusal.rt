@@ -50,7 +50,7 @@ fn status_of_policy(code: PolicyCode) -> u32
 
 impl Refusal {
     /// The status.
-    pub(crate) fn status(self) -> u32
+    fn status(self) -> u32
         ensures value { result ≡ refusal_status self }
         ensures low { 49 ≤ result }
         ensures high { result ≤ 66 }
@@ -64,7 +64,7 @@ impl Refusal {
     }
 
     /// The number of the faulty line, or 0.
-    pub(crate) fn line(self) -> u64
+    fn line(self) -> u64
         ensures { result ≡ refusal_line self }
     {
         match self {
@@ -73,5 +73,16 @@ impl Refusal {
             Refusal::Schedule => 0,
             Refusal::Memory => 0,
         }
+    }
+
+    /// Writes the number of the faulty line, or 0, and answers the status.
+    pub(crate) fn report(self, line: &mut u64) -> u32
+        ensures value { result ≡ refusal_status self }
+        ensures low { 49 ≤ result }
+        ensures high { result ≤ 66 }
+        ensures line { line.new ≡ refusal_line self }
+    {
+        *line = self.line();
+        self.status()
     }
 }

@@ -1,8 +1,10 @@
 -- The run of the first image.
 use Rattle.std.proofs.Common.{◌≡◌, ℕ, List, [], subst}
 use Rattle.std.specs.Prelude.{false, Option, Some, None, Result, Ok, Err, IfOk}
+use Rattle.base.specs.Ram.{ram_base}
 use Rattle.image.specs.declared.fault.ImageFault.{ImageFault}
-use Rattle.image.specs.Image.{Builds, Image}
+use Rattle.image.specs.declared.fault.ImageFault.TheVariants.{L11}
+use Rattle.image.specs.Image.{Builds, Image, build_fault, is_good_header, span_fault}
 use Rattle.symbols.specs.Symbols.{Symbol}
 use Rattle.commands.specs.declared.running.Ended.{Ended}
 use Rattle.commands.specs.Loading.{Run}
@@ -11,6 +13,12 @@ use Rattle.commands.specs.Running.{Runs, first_image, first_run}
 pub built : (fault : Option ImageFault) (image made : Image) → Builds fault image (Ok made) → made ≡ image
 built None image made is = is
 built (Some fault) image made is = cc
+
+-- the first image has no fault
+pub first_unbuilt : (found : ImageFault)
+    → Builds (build_fault 1 1 ram_base 0 first_image.sections []) first_image (Err found) → found ≡ L11
+unfolding build_fault is_good_header span_fault
+first_unbuilt found builds = builds
 
 abbrev five_steps : Image → List Symbol → List ℕ → Run
 five_steps image table input =

@@ -4,3 +4,4 @@ pub mod Typed
 pub mod Policies
 pub mod Sources
 pub mod FirstRun
+pub mod Failing

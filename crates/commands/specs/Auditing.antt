@@ -1,5 +1,5 @@
 -- What `audit` tells and writes of a run.
-use Rattle.std.specs.Prelude.{◌≡◌, ℕ, Bool, if◌then◌else◌, List, [], length, Option, Some, None, string_bytes}
+use Rattle.std.specs.Prelude.{◌≡◌, ℕ, Bool, false, if◌then◌else◌, List, [], length, Option, Some, None, string_bytes}
 use Rattle.std.specs.Io.KnownBytes.{Appends}
 use Rattle.breach_texts.specs.declared.breach.RuleLine.{RuleLine}
 use Rattle.command_line.specs.declared.plans.RunRequest.{RunRequest}
@@ -10,8 +10,10 @@ use Rattle.policy_audit.specs.Text.{audit_findings, audit_text}
 use Rattle.commands.specs.declared.auditing.Audited.{Audited}
 use Rattle.commands.specs.declared.loading.LoadedRun.{LoadedRun}
 use Rattle.commands.specs.declared.loading.Rules.{Rules}
-use Rattle.commands.specs.Files.{Change}
-use Rattle.commands.specs.Loading.{IsLoaded, Run, events_to, run_of, terms_in}
+use Rattle.commands.specs.declared.fault.ProgramFault.{ProgramFault}
+use Rattle.commands.specs.Files.{Change, File, IsNoMemory, IsUnsent}
+use Rattle.commands.specs.Loading.{FailsToLoad, IsLoaded, Run, events_to, run_of, terms_in}
+use Rattle.commands.specs.RunFaults.{FailsToTrace}
 use Rattle.commands.specs.Running.{Traces, trace_of}
 
 -- The audit of a run by a policy is told, with the lines of its rules; and how many parts are broken.
@@ -43,3 +45,24 @@ AuditsLoaded loaded count change =
 -- A run that is asked for, with what its files hold.
 abbrev pub AuditsRun : RunRequest → ℕ → Change → Type 0
 AuditsRun request count change = (loaded : LoadedRun) × IsLoaded request change.old loaded × AuditsLoaded loaded count change
+
+-- ---- faults
+
+-- what is to be told can't be written
+abbrev pub IsUntold : Bool → ProgramFault → Type 0
+IsUntold quiet fault = (quiet ≡ false) × IsUnsent fault
+
+-- a run that is loaded: no memory to audit it; or it is audited, and its trace fails; or that is written, and what is told can't be
+pub data FailsLoaded (loaded : LoadedRun) (old new : Option (List File)) (fault : ProgramFault) : Type 0 where
+  at_audit : IsNoMemory fault → new ≡ old → FailsLoaded loaded old new fault
+  at_trace :
+      FailsToTrace loaded.request.trace (trace_of loaded.request (run_of loaded) (events_to None (run_of loaded))) old new fault
+      → FailsLoaded loaded old new fault
+  at_output :
+      Traces loaded.request.trace (trace_of loaded.request (run_of loaded) (events_to None (run_of loaded))) old new
+      → IsUntold loaded.request.quiet fault → FailsLoaded loaded old new fault
+
+-- Why the run of a file isn't audited: its files can't be loaded; or they are, and that fails.
+pub data FailsToAudit (request : RunRequest) (old new : Option (List File)) (fault : ProgramFault) : Type 0 where
+  at_files : FailsToLoad request old fault → new ≡ old → FailsToAudit request old new fault
+  at_run : (loaded : LoadedRun) → IsLoaded request old loaded → FailsLoaded loaded old new fault → FailsToAudit request old new fault

@@ -10,6 +10,7 @@ use Rattle.symbols.specs.Symbols.{Symbol, faulty_line, symbols_of}
 use Rattle.commands.specs.declared.fault.ProgramFault.{ProgramFault}
 use Rattle.commands.specs.declared.fault.ProgramFault.TheVariants.{NoFile, Directory, Read, Write, CutShort, Memory}
 use Rattle.commands.specs.declared.fault.ProgramFault.TheVariants as program
+use Rattle.machine.specs.declared.fault.MachineFault.TheVariants.{M2}
 
 abbrev pub Text : Type 0
 Text = List ℕ
@@ -94,6 +95,17 @@ abbrev pub IsUnwritten : Text → Option (List File) → Option (List File) → 
 IsUnwritten file old new (CutShort name) = (name.now ≡ file) × Gains old new (begun file ∷ [])
 IsUnwritten file old new other = IsOpening file other × (new ≡ old)
 
+-- a file that was made: it is cut short, and stays so
+abbrev pub IsUnfinished : Text → Option (List File) → Option (List File) → ProgramFault → Type 0
+IsUnfinished file old new (CutShort name) = (name.now ≡ file) × (new ≡ old)
+IsUnfinished file old new other = ⊥
+
+-- no memory, for a machine or for anything else
+abbrev pub IsNoMemory : ProgramFault → Type 0
+IsNoMemory (program.Machine M2) = ⊤
+IsNoMemory Memory = ⊤
+IsNoMemory other = ⊥
+
 -- a write to the output fails
 abbrev pub IsUnsent : ProgramFault → Type 0
 IsUnsent (Write failed) = ⊤
@@ -103,6 +115,11 @@ IsUnsent other = ⊥
 abbrev pub IsUnsentOrMemory : ProgramFault → Type 0
 IsUnsentOrMemory Memory = ⊤
 IsUnsentOrMemory other = IsUnsent other
+
+-- or for a machine
+abbrev pub IsUnsentOrNoMemory : ProgramFault → Type 0
+IsUnsentOrNoMemory (Write failed) = ⊤
+IsUnsentOrNoMemory other = IsNoMemory other
 
 -- a fault of a file that is to be an image: what its bytes are refused for, with a hint, or the system's
 abbrev pub IsImageFault : Text → Option (List File) → ProgramFault → Type 0
@@ -127,6 +144,17 @@ abbrev pub IsTableFault : Text → Option (List File) → ProgramFault → Type 
 IsTableFault table files (program.Symbols name number) =
     (name.now ≡ table) × IfSome (bytes_of table files) (λ text. faulty_line text ≡ Some number)
 IsTableFault table files other = IsTextFault table files other
+
+-- the same of a table of lines of sources
+abbrev pub IsTextSourcesFault : Text → List ℕ → ProgramFault → Type 0
+IsTextSourcesFault table text (program.Lines name number) = (name.now ≡ table) × (faulty_place text ≡ Some number)
+IsTextSourcesFault table text Memory = ⊤
+IsTextSourcesFault table text other = ⊥
+
+abbrev pub IsSourcesFault : Text → Option (List File) → ProgramFault → Type 0
+IsSourcesFault table files (program.Lines name number) =
+    (name.now ≡ table) × IfSome (bytes_of table files) (λ text. faulty_place text ≡ Some number)
+IsSourcesFault table files other = IsTextFault table files other
 
 -- ---- a file that is read, where it is known what it holds
 

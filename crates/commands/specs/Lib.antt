@@ -8,6 +8,8 @@ pub mod Listing
 pub mod Loading
 pub mod Running
 pub mod Watching
+pub mod RunFaults
 pub mod Auditing
 pub mod Proving
 pub mod Overwriting
+pub mod FaultTexts

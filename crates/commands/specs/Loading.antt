@@ -1,5 +1,5 @@
 -- What the files of a run hold: its image, its labels, the policy that it is watched or audited by, and what is typed.
-use Rattle.std.specs.Prelude.{◌≡◌, ℕ, ◌*◌, List, [], Option, Some, None, Ok, IfSome, IsSomeAnd, vec_len}
+use Rattle.std.specs.Prelude.{◌≡◌, ◌⊎◌, ◌≤◌, ◌<◌, ℕ, ◌+◌, ◌*◌, List, [], length, Option, Some, None, Ok, Err, IfSome, IsSomeAnd, vec_len, ⊤}
 use Rattle.std.specs.Borrow.{Bor}
 use Rattle.command_line.specs.declared.plans.RunRequest.{RunRequest}
 use Rattle.hart.specs.Opening.{opening}
@@ -16,8 +16,10 @@ use Rattle.steps.specs.State.{State}
 use Rattle.symbols.specs.Symbols.{Symbol}
 use Rattle.commands.specs.declared.loading.LoadedRun.{LoadedRun}
 use Rattle.commands.specs.declared.loading.Rules.{Rules}
-use Rattle.commands.specs.Files.{Text, File, bytes_of}
-use Rattle.commands.specs.Programs.{HasTable, IsProgram}
+use Rattle.commands.specs.declared.fault.ProgramFault.{ProgramFault}
+use Rattle.commands.specs.declared.fault.ProgramFault.TheVariants as program
+use Rattle.commands.specs.Files.{Text, File, Holds, IsReading, bytes_of}
+use Rattle.commands.specs.Programs.{FailsToLoadProgram, IsProgramLoaded}
 
 -- ---- a run
 
@@ -66,9 +68,7 @@ terms_in rules = terms_of rules.policy.rules.items
 pub record IsLoaded (asked : RunRequest) (files : Option (List File)) (loaded : LoadedRun) : Type 0 where
   pub request : loaded.request ≡ asked
   pub schedule : loaded.schedule ≡ schedule_of asked
-  pub program :
-      (labels : Option (List Symbol)) × HasTable asked.image.now asked.lines files labels loaded.table
-      × IsProgram asked.image.now asked.symbols files loaded.image labels
+  pub program : IsProgramLoaded asked.image.now asked.symbols asked.lines files loaded.image loaded.table
   pub rules : AreRules asked.policy loaded.table files loaded.rules
   pub input : IsTyped (schedule_of asked) asked.input files loaded.input.items
 
@@ -84,3 +84,40 @@ AreNumbered rules = vec_len rules.policy.rules ≡ vec_len rules.policy.lines
 pub record IsReady (loaded : LoadedRun) : Type 0 where
   pub range : IsRunnable loaded.schedule
   pub numbered : IfSome loaded.rules AreNumbered
+
+-- ---- faults
+
+-- a fault of a file that is to hold a policy: a text that is too long, or the system's
+abbrev pub IsPolicyTextFault : Text → Option (List File) → ProgramFault → Type 0
+IsPolicyTextFault policy files (program.LongPolicy name) =
+    (name.now ≡ policy) × IfSome (bytes_of policy files) (λ text. 0x10_0000 < length text)
+IsPolicyTextFault policy files other = IsReading policy other
+
+-- a fault of a text that is to be a policy: its first faulty line and what is wrong with it, or no memory
+abbrev pub IsPolicyFault : Text → Text → List Symbol → ProgramFault → Type 0
+IsPolicyFault policy text table (program.Policy name line code) = (name.now ≡ policy) × (policy_of table text ≡ Err (line, code))
+IsPolicyFault policy text table program.Memory = ⊤
+IsPolicyFault policy text table other = ⊥
+
+-- why a file gives no policy: its text can't be read; or it is, and isn't a policy with these labels
+abbrev pub IsRulesFault : Text → List Symbol → Option (List File) → ProgramFault → Type 0
+IsRulesFault policy table files fault =
+    IsPolicyTextFault policy files fault ⊎ ((text : List ℕ) × Holds policy files text × IsPolicyFault policy text table fault)
+
+-- a fault of what is typed: a file of more than 256 MiB, where a byte after these could come; or the system's
+abbrev pub IsTypedFault : Schedule → Text → Option (List File) → ProgramFault → Type 0
+IsTypedFault schedule input files (program.LongText name) =
+    (name.now ≡ input) × (1 + 0x1000_0000 * schedule.gap ≤ schedule.steps)
+    × IfSome (bytes_of input files) (λ bytes. 0x1000_0000 < length bytes)
+IsTypedFault schedule input files other = IsReading input other
+
+-- Why the files of a run aren't loaded: its program isn't; or it is, and its policy can't be; or that is too, and what is typed can't be.
+pub data FailsToLoad (asked : RunRequest) (files : Option (List File)) (fault : ProgramFault) : Type 0 where
+  at_program : FailsToLoadProgram asked.image.now asked.symbols asked.lines files fault → FailsToLoad asked files fault
+  at_policy :
+      (image : Image) (table : List Symbol) → IsProgramLoaded asked.image.now asked.symbols asked.lines files image table
+      → IsSomeAnd asked.policy (λ policy. IsRulesFault policy.now table files fault) → FailsToLoad asked files fault
+  at_input :
+      (image : Image) (table : List Symbol) (rules : Option Rules)
+      → IsProgramLoaded asked.image.now asked.symbols asked.lines files image table → AreRules asked.policy table files rules
+      → IsSomeAnd asked.input (λ input. IsTypedFault (schedule_of asked) input.now files fault) → FailsToLoad asked files fault

@@ -11,8 +11,8 @@ use Rattle.symbols.specs.Sources.{places_of}
 use Rattle.symbols.specs.Symbols.{Symbol, symbols_of, table_text}
 use Rattle.commands.specs.declared.fault.ProgramFault.{ProgramFault}
 use Rattle.commands.specs.Assembling.{IsFaultyText, own_lines, seen_labels}
-use Rattle.commands.specs.Files.{Text, File, AreLinesOf, Holds, IsImageFault, IsTable, IsTableFault, IsTextFault, IsTextTableFault}
-use Rattle.commands.specs.Files.{bytes_of}
+use Rattle.commands.specs.Files.{Text, File, AreLinesOf, Holds, IsImageFault, IsSourcesFault, IsTable, IsTableFault, IsTextFault}
+use Rattle.commands.specs.Files.{IsTextSourcesFault, IsTextTableFault, bytes_of}
 
 -- A file holds a text where its name ends in `.s`.
 abbrev pub is_source : Text → Bool
@@ -61,6 +61,11 @@ pub record HasTable (name : Text) (lines : Option (Bor Text)) (files : Option (L
   pub given : GivesLines lines own files sources
   pub all : table ≡ table_of labels ++ sources
 
+-- What is read of a file that is run, judged or debugged: its image, and what is told with addresses.
+abbrev pub IsProgramLoaded : Text → Option (Bor Text) → Option (Bor Text) → Option (List File) → Image → List Symbol → Type 0
+IsProgramLoaded name symbols lines files image table =
+    (labels : Option (List Symbol)) × HasTable name lines files labels table × IsProgram name symbols files image labels
+
 -- ---- faults
 
 -- why a file gives no image: its text can't be read or has a fault, or its bytes are none
@@ -81,3 +86,17 @@ pub data IsProgramFault (name : Text) (symbols : Option (Bor Text)) (files : Opt
   at_labels :
       (image : Image) → GivesImage name files image → IsLabelsFault (is_source name) name symbols files fault
       → IsProgramFault name symbols files fault
+
+-- why no lines of sources: the table that is named can't be read or is invalid, or there is no memory for them
+abbrev pub IsLinesFault : Text → Option (Bor Text) → List ℕ → Option (List File) → ProgramFault → Type 0
+IsLinesFault name None own files fault = IsTextSourcesFault name own fault
+IsLinesFault name (Some table) own files fault = IsSourcesFault table.now files fault
+
+-- Why a program isn't read with what is told with addresses: its file isn't one; or it is, and there are no lines.
+pub data FailsToLoadProgram (name : Text) (symbols lines : Option (Bor Text)) (files : Option (List File)) (fault : ProgramFault)
+    : Type 0 where
+  at_program : IsProgramFault name symbols files fault → FailsToLoadProgram name symbols lines files fault
+  at_lines :
+      (image : Image) (labels : Option (List Symbol)) (own : List ℕ) → IsProgram name symbols files image labels
+      → GivesOwnLines (is_source name) name files own → IsLinesFault name lines own files fault
+      → FailsToLoadProgram name symbols lines files fault

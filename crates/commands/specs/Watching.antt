@@ -1,6 +1,5 @@
 -- What a run does that is watched by a policy, and where it ends.
-use Rattle.std.specs.Prelude.{◌≡◌, ℕ, ◌-◌, ◌<◌, Bool, true, false, List, [], length, Option, Some, None, Err, IfSome, get_or}
-use Rattle.std.specs.Prelude.{string_bytes, IsUtf8, ⊤}
+use Rattle.std.specs.Prelude.{◌≡◌, ℕ, ◌-◌, Bool, true, false, List, [], Option, Some, None, get_or, string_bytes, IsUtf8}
 use Rattle.std.specs.Borrow.{Bor}
 use Rattle.breach_texts.specs.Text.{refused_lines}
 use Rattle.command_line.specs.declared.plans.RunRequest.{RunRequest}
@@ -11,33 +10,19 @@ use Rattle.policy.specs.Lending.{in_force}
 use Rattle.policy.specs.Terms.{Terms}
 use Rattle.policy.specs.Watch.{IsRefused}
 use Rattle.policy_runs.specs.Keeping.{StepsKeepToEach}
-use Rattle.policy_text.specs.Policy.{line_text, policy_of}
+use Rattle.policy_text.specs.Policy.{line_text}
 use Rattle.schedules.specs.Schedule.{IsPlaceOf}
 use Rattle.sim_run.specs.declared.stopping.StopAt.{StopAt}
 use Rattle.steps.specs.declared.event.Event.{Event}
 use Rattle.steps.specs.State.{State}
 use Rattle.symbols.specs.Symbols.{Symbol}
-use Rattle.commands.specs.declared.fault.ProgramFault.{ProgramFault}
-use Rattle.commands.specs.declared.fault.ProgramFault.TheVariants as program
 use Rattle.commands.specs.declared.loading.LoadedRun.{LoadedRun}
 use Rattle.commands.specs.declared.loading.Rules.{Rules}
 use Rattle.commands.specs.declared.running.Ended.{Ended}
 use Rattle.commands.specs.declared.watching.Stop.{Stop}
-use Rattle.commands.specs.Files.{Text, File, Change, IsReading, bytes_of}
+use Rattle.commands.specs.Files.{Text, Change}
 use Rattle.commands.specs.Loading.{IsLoaded, Run, events_to, run_of, state_after, terms_in}
 use Rattle.commands.specs.Running.{RunsFreely, Sends, Writes, place_of}
-
--- a fault of a file that is to hold a policy: a text that is too long, or the system's
-abbrev pub IsPolicyTextFault : Text → Option (List File) → ProgramFault → Type 0
-IsPolicyTextFault policy files (program.LongPolicy name) =
-    (name.now ≡ policy) × IfSome (bytes_of policy files) (λ text. 0x10_0000 < length text)
-IsPolicyTextFault policy files other = IsReading policy other
-
--- a fault of a text that is to be a policy: its first faulty line and what is wrong with it, or no memory
-abbrev pub IsPolicyFault : Text → Text → List Symbol → ProgramFault → Type 0
-IsPolicyFault policy text table (program.Policy name line code) = (name.now ≡ policy) × (policy_of table text ≡ Err (line, code))
-IsPolicyFault policy text table program.Memory = ⊤
-IsPolicyFault policy text table other = ⊥
 
 -- the line of a rule in the text that says it
 abbrev pub line_number : Rules → ℕ → ℕ

@@ -1,12 +1,14 @@
 //! The command `audit`.
 
-ghost use Rattle.std.specs.Prelude.{IfOk, OnOk, None};
+ghost use Rattle.std.specs.Prelude.{IfErr, IfOk, OnOk, None};
 ghost use Rattle.std.specs.Io.KnownBytes.{Appends};
 ghost use Rattle.command_line.specs.CommandLine.{AreInRange};
 ghost use Rattle.schedules.specs.Schedule.{IsRunnable};
-ghost use Rattle.commands.specs.Auditing.{Audits, AuditsBy, AuditsLoaded, AuditsRun, ListsEntries, told_unless};
-ghost use Rattle.commands.specs.Files.{changed};
+ghost use Rattle.commands.specs.Auditing.{Audits, AuditsBy, AuditsLoaded, AuditsRun, FailsLoaded, FailsToAudit, IsUntold, ListsEntries};
+ghost use Rattle.commands.specs.Auditing.{told_unless};
+ghost use Rattle.commands.specs.Files.{IsNoMemory, IsUnsent, changed};
 ghost use Rattle.commands.specs.Loading.{events_to, run_of};
+ghost use Rattle.commands.specs.RunFaults.{FailsToTrace};
 ghost use Rattle.commands.specs.Running.{Traces, trace_of};
 
 use crate::fault::ProgramFault;
@@ -35,7 +37,8 @@ fn audit_policy<'a>(
     rules: &Rules,
 ) -> Result<Audited, ProgramFault<'a>>
     requires { IsRunnable run.now.schedule }
-    ensures { IfOk result (Audits rules.now (run_of run.now)) }
+    ensures ok { IfOk result (Audits rules.now (run_of run.now)) }
+    ensures err { IfErr result IsNoMemory }
 {
     let mut machine: ProgramMachine = Machine::new(alloc, &run.image)?;
     let lines = rule_lines(alloc, &rules.text, &rules.policy.lines)?;
@@ -56,7 +59,8 @@ fn audit_policy<'a>(
 /// Lists what the code in each range that a run enters can do, as rules.
 fn list_entries<'a>(alloc: Global, run: &LoadedRun<'_>) -> Result<Audited, ProgramFault<'a>>
     requires { IsRunnable run.now.schedule }
-    ensures { IfOk result (ListsEntries (run_of run.now)) }
+    ensures ok { IfOk result (ListsEntries (run_of run.now)) }
+    ensures err { IfErr result IsNoMemory }
 {
     let mut machine: ProgramMachine = Machine::new(alloc, &run.image)?;
     let mut text = String::new(alloc);
@@ -67,7 +71,8 @@ fn list_entries<'a>(alloc: Global, run: &LoadedRun<'_>) -> Result<Audited, Progr
 /// Audits a run by its policy, or lists its entries where it has none.
 fn audit_loaded<'a>(alloc: Global, run: &LoadedRun<'_>) -> Result<Audited, ProgramFault<'a>>
     requires { IsRunnable run.now.schedule }
-    ensures { IfOk result (AuditsBy run.now.rules (run_of run.now)) }
+    ensures ok { IfOk result (AuditsBy run.now.rules (run_of run.now)) }
+    ensures err { IfErr result IsNoMemory }
 {
     match &run.rules {
         Some(rules) => audit_policy(alloc, run, rules),
@@ -77,7 +82,8 @@ fn audit_loaded<'a>(alloc: Global, run: &LoadedRun<'_>) -> Result<Audited, Progr
 
 /// Writes a text to an output, and hands it back.
 fn write_text<'a, O: Write + Drop>(output: O, text: &str) -> Result<O, ProgramFault<'a>>
-    ensures { IfOk result (λ out. Appends (O.contents output) (O.contents out) text.now) }
+    ensures ok { IfOk result (λ out. Appends (O.contents output) (O.contents out) text.now) }
+    ensures err { IfErr result IsUnsent }
 {
     let mut sink = Writing::new(output);
     write_all(&mut sink, text.as_bytes())?;
@@ -90,7 +96,8 @@ pub(crate) fn tell<'a, O: Write + Drop>(
     text: &str,
     quiet: bool,
 ) -> Result<O, ProgramFault<'a>>
-    ensures { IfOk result (λ out. Appends (O.contents output) (O.contents out) (told_unless quiet text.now)) }
+    ensures ok { IfOk result (λ out. Appends (O.contents output) (O.contents out) (told_unless quiet text.now)) }
+    ensures err { IfErr result (IsUntold quiet) }
 {
     if quiet {
         Ok(output)
@@ -107,8 +114,10 @@ fn trace_run<'a, F: Folder>(
     run: &LoadedRun<'a>,
 ) -> Result<(), ProgramFault<'a>>
     requires { IsRunnable run.now.schedule }
-    ensures { OnOk result (Traces run.now.request.trace (trace_of run.now.request (run_of run.now) (events_to None (run_of run.now)))
+    ensures ok { OnOk result (Traces run.now.request.trace (trace_of run.now.request (run_of run.now) (events_to None (run_of run.now)))
         (F.files folder.old) (F.files folder.new)) }
+    ensures err { IfErr result (FailsToTrace run.now.request.trace
+        (trace_of run.now.request (run_of run.now) (events_to None (run_of run.now))) (F.files folder.old) (F.files folder.new)) }
 {
     if run.request.trace.is_some() {
         run_image(alloc, folder, run, None, Nowhere)?;
@@ -126,8 +135,9 @@ fn audit_on<'a, F: Folder, O: Write + Drop>(
     output: O,
 ) -> Result<(usize, O), ProgramFault<'a>>
     requires { IsRunnable run.now.schedule }
-    ensures { IfOk result (λ done. AuditsLoaded run.now done.0
+    ensures ok { IfOk result (λ done. AuditsLoaded run.now done.0
         (changed (O.contents output) (O.contents done.1) (F.files folder.old) (F.files folder.new))) }
+    ensures err { IfErr result (FailsLoaded run.now (F.files folder.old) (F.files folder.new)) }
 {
     let audited = audit_loaded(alloc, run)?;
     trace_run(alloc, folder, run)?;
@@ -143,8 +153,9 @@ pub fn audit_file<'a, F: Folder, O: Write + Drop>(
     output: O,
 ) -> Result<(usize, O), ProgramFault<'a>>
     requires { AreInRange request }
-    ensures { IfOk result (λ done. AuditsRun request.entry done.0
+    ensures ok { IfOk result (λ done. AuditsRun request.entry done.0
         (changed (O.contents output) (O.contents done.1) (F.files folder.old) (F.files folder.new))) }
+    ensures err { IfErr result (FailsToAudit request.entry (F.files folder.old) (F.files folder.new)) }
 {
     match load(alloc, folder, request) {
         Ok(run) => audit_on(alloc, folder, &run, output),

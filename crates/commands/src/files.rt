@@ -5,8 +5,8 @@ ghost use Rattle.image.specs.Grammar.{spelling, reading};
 ghost use Rattle.symbols.specs.Sources.{faulty_place, places_of};
 ghost use Rattle.symbols.specs.Symbols.{faulty_line, symbols_of};
 ghost use Rattle.commands.specs.Files.{File, begun, ended, whole, Finishes, Gains, IsNew, IsImageFault, IsTable, IsTableFault};
-ghost use Rattle.commands.specs.Files.{IsTextTableFault};
-ghost use Rattle.commands.specs.Files.{IsOpening, IsReading, IsTextFault, IsUnwritten, bytes_of};
+ghost use Rattle.commands.specs.Files.{IsOpening, IsReading, IsTextFault, IsTextSourcesFault, IsTextTableFault, IsUnfinished, IsUnwritten};
+ghost use Rattle.commands.specs.Files.{bytes_of};
 ghost use Rattle.commands.specs.Overwriting.{Sameness};
 
 use crate::beginning::Beginning;
@@ -173,14 +173,7 @@ pub fn write_bytes<'a, F: Folder>(
     ensures err { IfErr result (IsUnwritten name.entry.now (F.files folder.old) (F.files folder.new)) }
 {
     let file = make_file(folder, name)?;
-    let mut sink = Writing::new(file);
-    match write_all(&mut sink, bytes) {
-        Ok(()) => {
-            folder.close(name, sink.into_inner());
-            Ok(())
-        }
-        Err(_) => Err(ProgramFault::CutShort(name)),
-    }
+    finish_file(folder, name, file, bytes)
 }
 
 /// Writes bytes to a file of this name that was made, and closes it.
@@ -191,6 +184,7 @@ pub fn finish_file<'a, F: Folder>(
     bytes: &[u8],
 ) -> Result<(), ProgramFault<'a>>
     ensures ok { OnOk result (Finishes name.entry.now (F.Made.contents file) bytes.now (F.files folder.old) (F.files folder.new)) }
+    ensures err { IfErr result (IsUnfinished name.entry.now (F.files folder.old) (F.files folder.new)) }
 {
     let mut grown = Writing::new(file);
     match write_all(&mut grown, bytes) {
@@ -241,6 +235,7 @@ pub fn with_sources<'a>(
 ) -> Result<Symbols, ProgramFault<'a>>
     ensures correct { IfOk result (λ _. faulty_place text.now ≡ None) }
     ensures symbols { IfOk result (λ all. all ≡ table ++ places_of text.now) }
+    ensures err { IfErr result (IsTextSourcesFault name.entry.now text.now) }
 {
     match table.with_sources(alloc, text) {
         Ok(all) => Ok(all),

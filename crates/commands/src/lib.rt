@@ -16,6 +16,7 @@ mod profiling;
 mod programs;
 mod proving;
 mod running;
+mod telling;
 mod watching;
 mod writing;
 
@@ -29,8 +30,9 @@ pub use imaging::image_file;
 pub use listing::list_file;
 pub use loading::{LoadedRun, load};
 pub use overwriting::overwrites;
-pub use programs::{Program, read_program, told_with};
+pub use programs::{LoadedProgram, load_program};
 pub use proving::prove_file;
 pub use running::{Ended, ProgramMachine, run_first, stop_at};
+pub use telling::put_fault;
 pub use watching::run_loaded;
 pub use writing::Writing;

@@ -1,17 +1,17 @@
 //! The files of a run, read: its image, its labels, its policy, and what is typed.
 
-ghost use Rattle.std.specs.Prelude.{◌≡◌, ◌≤◌, ◌<◌, IfOk, IfErr, IfSome, Ok, Some, length, vec_len};
+ghost use Rattle.std.specs.Prelude.{◌≡◌, ◌≤◌, ◌<◌, IfOk, IfErr, IfSome, IsSomeAnd, Ok, Some, length, vec_len};
 ghost use Rattle.command_line.specs.CommandLine.{AreInRange};
 ghost use Rattle.policy_text.specs.Policy.{policy_of};
 ghost use Rattle.policy_text.specs.Seen.{seen};
 ghost use Rattle.schedules.specs.Schedule.{IsRunnable};
 ghost use Rattle.commands.specs.Files.{bytes_of};
-ghost use Rattle.commands.specs.Loading.{AreNumbered, AreRules, IsLoaded, IsPolicyOf, IsReady, IsTyped, schedule_of};
-ghost use Rattle.commands.specs.Watching.{IsPolicyFault, IsPolicyTextFault};
+ghost use Rattle.commands.specs.Loading.{AreNumbered, AreRules, FailsToLoad, IsLoaded, IsPolicyFault, IsPolicyOf, IsPolicyTextFault};
+ghost use Rattle.commands.specs.Loading.{IsReady, IsRulesFault, IsTyped, IsTypedFault, schedule_of};
 
 use crate::fault::ProgramFault;
 use crate::files::{Folder, MOST_TEXT, read_at_most, read_beginning, read_text};
-use crate::programs::{Program, read_program, told_with};
+use crate::programs::{LoadedProgram, load_program};
 use command_line::RunRequest;
 use image::Image;
 use policy_text::{Policy, PolicyTextFault, read_policy};
@@ -95,6 +95,7 @@ pub(crate) fn named_rules<'a, F: Folder>(
 ) -> Result<Rules, ProgramFault<'a>>
     ensures rules { IfOk result (λ rules. AreRules (Some name.entry) table.now (F.files folder.now) (Some rules)) }
     ensures numbered { IfOk result AreNumbered }
+    ensures err { IfErr result (IsRulesFault name.entry.now table.now (F.files folder.now)) }
 {
     let text = policy_bytes(alloc, folder, name)?;
     let policy = policy_of(alloc, name, &text, table)?;
@@ -110,6 +111,8 @@ fn rules_of<'a, F: Folder>(
 ) -> Result<Option<Rules>, ProgramFault<'a>>
     ensures rules { IfOk result (AreRules policy.entry table.now (F.files folder.now)) }
     ensures numbered { IfOk result (λ rules. IfSome rules AreNumbered) }
+    ensures err { IfErr result (λ fault. IsSomeAnd policy.entry (λ policy.
+        IsRulesFault policy.now table.now (F.files folder.now) fault)) }
 {
     match policy {
         Some(name) => {
@@ -130,7 +133,8 @@ fn typed<'a, F: Folder>(
 ) -> Result<Vec<u8>, ProgramFault<'a>>
     requires some_step { 1 ≤ schedule.steps }
     requires range { IsRunnable schedule }
-    ensures { IfOk result (λ typed. IsTyped schedule input.entry (F.files folder.now) typed.items) }
+    ensures ok { IfOk result (λ typed. IsTyped schedule input.entry (F.files folder.now) typed.items) }
+    ensures err { IfErr result (λ fault. IsSomeAnd input.entry (λ input. IsTypedFault schedule input.now (F.files folder.now) fault)) }
 {
     let most = schedule.most_bytes();
     match input {
@@ -150,22 +154,11 @@ pub fn load<'a, F: Folder>(
     requires { AreInRange request }
     ensures loaded { IfOk result (IsLoaded request.entry (F.files folder.now)) }
     ensures ready { IfOk result IsReady }
+    ensures err { IfErr result (FailsToLoad request.entry (F.files folder.now)) }
 {
     let schedule = schedule_of(request);
-    let program = read_program(alloc, folder, request.image, request.symbols)?;
-    let Program {
-        image,
-        labels,
-        own_lines,
-    } = program;
-    let table = told_with(
-        alloc,
-        folder,
-        request.image,
-        request.lines,
-        labels,
-        &own_lines,
-    )?;
+    let program = load_program(alloc, folder, request.image, request.symbols, request.lines)?;
+    let LoadedProgram { image, table } = program;
     let rules = rules_of(alloc, folder, request.policy, &table)?;
     let input = typed(alloc, folder, schedule, request.input)?;
     Ok(LoadedRun {

@@ -1,10 +1,12 @@
 //! Runs of which a profile is written.
 
-ghost use Rattle.std.specs.Prelude.{◌≡◌, Some, IfOk, IfSome, OnOk, string_bytes};
+ghost use Rattle.std.specs.Prelude.{◌≡◌, Some, IfErr, IfOk, IfSome, OnOk, string_bytes};
 ghost use Rattle.hart.specs.Opening.{opening};
 ghost use Rattle.schedules.specs.Schedule.{IsPlaceOf, IsRunnable};
 ghost use Rattle.sim_run.specs.Profile.{IsProfile, fetches};
+ghost use Rattle.commands.specs.Files.{IsNoMemory};
 ghost use Rattle.commands.specs.Loading.{events_to, run_of};
+ghost use Rattle.commands.specs.RunFaults.{FailsToWriteRun};
 ghost use Rattle.commands.specs.Running.{HasRun, Sends, Writes};
 
 use crate::fault::ProgramFault;
@@ -24,8 +26,9 @@ fn profile_of<'a>(
 ) -> Result<String, ProgramFault<'a>>
     requires range { IsRunnable run.now.schedule }
     requires stop { IfSome stop (IsPlaceOf run.now.schedule) }
-    ensures { IfOk result (λ text. IsProfile run.now.table (fetches (events_to stop (run_of run.now)) (opening run.now.image))
+    ensures ok { IfOk result (λ text. IsProfile run.now.table (fetches (events_to stop (run_of run.now)) (opening run.now.image))
         (string_bytes text)) }
+    ensures err { IfErr result IsNoMemory }
 {
     let mut machine: ProgramMachine = Machine::new(alloc, &run.image)?;
     let text = profile_before(
@@ -54,6 +57,8 @@ fn profile_image<'a, F: Folder, O: Write + Drop>(
     ensures sent { IfOk result (λ left. Sends (run_of run.now) (events_to stop (run_of run.now)) (O.contents output) (O.contents left.2)) }
     ensures files { OnOk result (Writes run.now.request (Some name.entry) (run_of run.now) (events_to stop (run_of run.now))
         (F.files folder.old) (F.files folder.new)) }
+    ensures err { IfErr result (FailsToWriteRun run.now.request (Some name.entry) (run_of run.now) (events_to stop (run_of run.now))
+        (F.files folder.old) (F.files folder.new)) }
 {
     let file = make_file(folder, name)?;
     let left = run_image(alloc, folder, run, stop, output)?;
@@ -76,6 +81,8 @@ pub fn run_profiled<'a, F: Folder, O: Write + Drop>(
     ensures ran { IfOk result (λ left. HasRun (run_of run.now) (events_to stop (run_of run.now)) left.0 left.1) }
     ensures sent { IfOk result (λ left. Sends (run_of run.now) (events_to stop (run_of run.now)) (O.contents output) (O.contents left.2)) }
     ensures files { OnOk result (Writes run.now.request profile.entry (run_of run.now) (events_to stop (run_of run.now))
+        (F.files folder.old) (F.files folder.new)) }
+    ensures err { IfErr result (FailsToWriteRun run.now.request profile.entry (run_of run.now) (events_to stop (run_of run.now))
         (F.files folder.old) (F.files folder.new)) }
 {
     match profile {

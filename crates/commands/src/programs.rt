@@ -9,7 +9,8 @@ ghost use Rattle.symbols.specs.Symbols.{symbols_of, table_text};
 ghost use Rattle.commands.specs.declared.fault.ProgramFault.TheVariants as program;
 ghost use Rattle.commands.specs.Assembling.{own_lines, seen_labels};
 ghost use Rattle.commands.specs.Files.{Holds, IsTextTableFault, bytes_of};
-ghost use Rattle.commands.specs.Programs.{GivesOwnLines, HasTable, IsGivenFault, IsProgram, IsProgramFault, is_source};
+ghost use Rattle.commands.specs.Programs.{FailsToLoadProgram, GivesOwnLines, HasTable, IsGivenFault, IsLinesFault, IsProgram};
+ghost use Rattle.commands.specs.Programs.{IsProgramFault, IsProgramLoaded, is_source};
 
 use crate::assembling::{base_name, faulty_text};
 use crate::fault::ProgramFault;
@@ -27,6 +28,13 @@ pub struct Program {
     pub image: Image,
     pub labels: Option<Symbols>,
     pub own_lines: Vec<u8>,
+}
+
+/// A program, with what is told with its addresses.
+#[derive(Drop)]
+pub struct LoadedProgram {
+    pub image: Image,
+    pub table: Symbols,
 }
 
 /// A text, and what it makes.
@@ -48,7 +56,7 @@ pub fn table_of(alloc: Global, labels: Option<Symbols>) -> Symbols
 
 /// What is told with addresses: the labels, and after them the lines of the file `lines`, if one is named, or else those of the program's
 /// own text, which belong to the file of this name.
-pub fn told_with<'a, F: Folder>(
+fn told_with<'a, F: Folder>(
     alloc: Global,
     folder: &F,
     name: &'a str,
@@ -57,7 +65,8 @@ pub fn told_with<'a, F: Folder>(
     own_lines: &[u8],
 ) -> Result<Symbols, ProgramFault<'a>>
     requires { GivesOwnLines (is_source name.now) name.now (F.files folder.now) own_lines.now }
-    ensures { IfOk result (HasTable name.entry.now lines.entry (F.files folder.now) labels) }
+    ensures ok { IfOk result (HasTable name.entry.now lines.entry (F.files folder.now) labels) }
+    ensures err { IfErr result (IsLinesFault name.entry.now lines.entry own_lines.now (F.files folder.now)) }
 {
     let table = table_of(alloc, labels);
     match lines {
@@ -191,4 +200,26 @@ pub fn read_program<'a, F: Folder>(
     } else {
         program_of_image(alloc, folder, name, symbols)
     }
+}
+
+/// What the file `name` gives that is run, judged or debugged, as `read_program` reads it; and what is told with addresses: its labels,
+/// and after them the lines of the file `lines`, if one is named, or else those of the text, if it is one.
+pub fn load_program<'a, F: Folder>(
+    alloc: Global,
+    folder: &F,
+    name: &'a str,
+    symbols: Option<&'a str>,
+    lines: Option<&'a str>,
+) -> Result<LoadedProgram, ProgramFault<'a>>
+    ensures ok { IfOk result (λ loaded.
+        IsProgramLoaded name.entry.now symbols.entry lines.entry (F.files folder.now) loaded.image loaded.table) }
+    ensures err { IfErr result (FailsToLoadProgram name.entry.now symbols.entry lines.entry (F.files folder.now)) }
+{
+    let Program {
+        image,
+        labels,
+        own_lines,
+    } = read_program(alloc, folder, name, symbols)?;
+    let table = told_with(alloc, folder, name, lines, labels, &own_lines)?;
+    Ok(LoadedProgram { image, table })
 }

@@ -1,14 +1,15 @@
 //! The command `prove`.
 
-ghost use Rattle.std.specs.Prelude.{◌≡◌, IfOk, string_bytes};
+ghost use Rattle.std.specs.Prelude.{◌≡◌, IfErr, IfOk, string_bytes};
 ghost use Rattle.every_run_texts.specs.Text.{verdict_text};
-ghost use Rattle.commands.specs.Proving.{IsProofLoaded, IsShown, ProvesFile};
+ghost use Rattle.commands.specs.Files.{IsNoMemory};
+ghost use Rattle.commands.specs.Proving.{FailsToProve, IsProofLoaded, IsShown, ProvesFile};
 
 use crate::auditing::tell;
 use crate::fault::ProgramFault;
 use crate::files::Folder;
 use crate::loading::{Rules, named_rules};
-use crate::programs::{Program, read_program, told_with};
+use crate::programs::{LoadedProgram, load_program};
 use command_line::ProveRequest;
 use every_run::{Verdict, prove};
 use every_run_texts::put_verdict;
@@ -33,22 +34,11 @@ fn load_proof<'a, F: Folder>(
     folder: &F,
     request: ProveRequest<'a>,
 ) -> Result<LoadedProof, ProgramFault<'a>>
-    ensures { IfOk result (λ loaded. IsProofLoaded request.entry (F.files folder.now) loaded.image loaded.table loaded.rules) }
+    ensures ok { IfOk result (λ loaded. IsProofLoaded request.entry (F.files folder.now) loaded.image loaded.table loaded.rules) }
+    ensures err { IfErr result (FailsToProve request.entry (F.files folder.now)) }
 {
-    let program = read_program(alloc, folder, request.image, request.symbols)?;
-    let Program {
-        image,
-        labels,
-        own_lines,
-    } = program;
-    let table = told_with(
-        alloc,
-        folder,
-        request.image,
-        request.lines,
-        labels,
-        &own_lines,
-    )?;
+    let program = load_program(alloc, folder, request.image, request.symbols, request.lines)?;
+    let LoadedProgram { image, table } = program;
     let rules = named_rules(alloc, folder, request.policy, &table)?;
     Ok(LoadedProof {
         image,
@@ -64,7 +54,8 @@ fn verdict_of<'a>(
     rules: &Rules,
     steps: u64,
 ) -> Result<Verdict, ProgramFault<'a>>
-    ensures { IfOk result (IsShown image.now rules.now) }
+    ensures ok { IfOk result (IsShown image.now rules.now) }
+    ensures err { IfErr result IsNoMemory }
 {
     let mut hart: Hart<WordCap> = Hart::new(alloc, image)?;
     let policy = &rules.policy;
@@ -79,8 +70,9 @@ fn verdict_lines<'a>(
     rules: &Rules,
     verdict: Verdict,
 ) -> Result<String, ProgramFault<'a>>
-    ensures { IfOk result (λ text. string_bytes text
+    ensures ok { IfOk result (λ text. string_bytes text
         ≡ verdict_text table.now rules.now.policy.any.items rules.now.policy.lines.items verdict) }
+    ensures err { IfErr result IsNoMemory }
 {
     let policy = &rules.policy;
     let mut text = String::new(alloc);
@@ -96,7 +88,8 @@ pub fn prove_file<'a, F: Folder, O: Write + Drop>(
     request: ProveRequest<'a>,
     output: O,
 ) -> Result<(bool, O), ProgramFault<'a>>
-    ensures { IfOk result (λ done. ProvesFile request.entry (F.files folder.now) done.0 (O.contents output) (O.contents done.1)) }
+    ensures ok { IfOk result (λ done. ProvesFile request.entry (F.files folder.now) done.0 (O.contents output) (O.contents done.1)) }
+    ensures err { IfErr result (FailsToProve request.entry (F.files folder.now)) }
 {
     let loaded = load_proof(alloc, folder, request)?;
     let verdict = verdict_of(alloc, &loaded.image, &loaded.rules, request.steps)?;

@@ -1,14 +1,17 @@
 //! The command `run`, and the run without a command.
 
-ghost use Rattle.std.specs.Prelude.{◌≡◌, List, [], ◌∷◌, IfOk, IfSome, OnOk, None, false, is_some, string_bytes};
+ghost use Rattle.std.specs.Prelude.{◌≡◌, ◌⊎◌, List, [], ◌∷◌, IfErr, IfOk, IfSome, OnOk, None, false, is_some, string_bytes};
 ghost use Rattle.std.specs.Io.Buffered.{line_writer_contents, writer_contents};
 ghost use Rattle.std.specs.Io.KnownBytes.{Keeps};
 ghost use Rattle.hart.specs.Opening.{opening};
 ghost use Rattle.schedules.specs.Schedule.{IsPlaceOf, IsRunnable, steps_in};
 ghost use Rattle.sim_run.specs.Trace.{lines_past, trace_text};
 ghost use Rattle.symbols.specs.Symbols.{Symbol};
-ghost use Rattle.commands.specs.Files.{Closes, Gains, IsNew, begun, changed, whole};
+ghost use Rattle.commands.specs.declared.fault.ProgramFault.TheVariants as program;
+ghost use Rattle.commands.specs.Files.{Closes, Gains, IsNew, IsNoMemory, IsUnfinished, IsUnsent, IsUnsentOrNoMemory, IsUnwritten, begun};
+ghost use Rattle.commands.specs.Files.{changed, whole};
 ghost use Rattle.commands.specs.Loading.{IsReady, events_to, run_of, state_after};
+ghost use Rattle.commands.specs.RunFaults.{FailsFreely, FailsToTrace, FailsTraced, IsFirstFault};
 ghost use Rattle.commands.specs.Running.{HasEnded, HasRun, Runs, RunsFreely, Sends, Traces, Writes};
 ghost use Rattle.commands.specs.Running.{events_of, first_run, is_told, place_lines, stop_at, stops, trace_of};
 
@@ -136,7 +139,8 @@ fn ending<'a>(
 ) -> Result<Ended, ProgramFault<'a>>
     requires range { IsRunnable run.now.schedule }
     requires ran { HasRun (run_of run.now) (events_to stop (run_of run.now)) machine.now ran }
-    ensures { IfOk result (HasEnded (run_of run.now) run.now.request.quiet (is_some stop) (events_to stop (run_of run.now))) }
+    ensures ok { IfOk result (HasEnded (run_of run.now) run.now.request.quiet (is_some stop) (events_to stop (run_of run.now))) }
+    ensures err { IfErr result (λ fault. fault ≡ program.Memory) }
 {
     let end = ran.end;
     if is_told(end, run.request.quiet) {
@@ -155,7 +159,8 @@ fn by_lines<'a, O: Write + Drop>(
     alloc: Global,
     output: O,
 ) -> Result<LineWriter<UntilFailure<O>>, ProgramFault<'a>>
-    ensures { IfOk result (λ lines. Keeps (O.contents output) (line_writer_contents ⟦<UntilFailure<O> as Write>⟧.contents lines)) }
+    ensures ok { IfOk result (λ lines. Keeps (O.contents output) (line_writer_contents ⟦<UntilFailure<O> as Write>⟧.contents lines)) }
+    ensures err { IfErr result IsNoMemory }
 {
     match LineWriter::new(alloc, UntilFailure::new(output)) {
         Ok(lines) => Ok(lines),
@@ -167,7 +172,8 @@ fn by_lines<'a, O: Write + Drop>(
 fn whole_lines<'a, O: Write + Drop>(
     lines: LineWriter<UntilFailure<O>>,
 ) -> Result<O, ProgramFault<'a>>
-    ensures { IfOk result (λ output. Keeps (line_writer_contents ⟦<UntilFailure<O> as Write>⟧.contents lines) (O.contents output)) }
+    ensures ok { IfOk result (λ output. Keeps (line_writer_contents ⟦<UntilFailure<O> as Write>⟧.contents lines) (O.contents output)) }
+    ensures err { IfErr result IsUnsent }
 {
     match lines.into_inner() {
         Ok(output) => Ok(output.into_inner()),
@@ -187,6 +193,7 @@ fn run_machine<'a, O: Write + Drop>(
     requires stop { IfSome stop (IsPlaceOf run.now.schedule) }
     ensures ran { IfOk result (λ left. HasRun (run_of run.now) (events_to stop (run_of run.now)) left.0 left.1) }
     ensures sent { IfOk result (λ left. Sends (run_of run.now) (events_to stop (run_of run.now)) (O.contents output) (O.contents left.2)) }
+    ensures err { IfErr result IsUnsentOrNoMemory }
 {
     let mut machine: ProgramMachine = Machine::new(alloc, &run.image)?;
     let mut sink = Writing::new(by_lines(alloc, output)?);
@@ -203,6 +210,8 @@ fn make_trace<'a, F: Folder>(
 ) -> Result<BufWriter<F::Made>, ProgramFault<'a>>
     ensures files { OnOk result (Gains (F.files folder.old) (F.files folder.new) (begun name.entry.now ∷ [])) }
     ensures empty { IfOk result (λ file. IsNew (F.files folder.old) (writer_contents F.Made.contents file)) }
+    ensures err { IfErr result (λ fault. IsUnwritten name.entry.now (F.files folder.old) (F.files folder.new) fault
+        ⊎ ((fault ≡ program.Memory) × Gains (F.files folder.old) (F.files folder.new) (begun name.entry.now ∷ []))) }
 {
     let file = make_file(folder, name)?;
     match BufWriter::with_capacity(alloc, BLOCK, file) {
@@ -217,7 +226,8 @@ fn close_trace<'a, F: Folder>(
     name: &'a str,
     trace: BufWriter<F::Made>,
 ) -> Result<(), ProgramFault<'a>>
-    ensures { OnOk result (Closes name.entry.now (writer_contents F.Made.contents trace) (F.files folder.old) (F.files folder.new)) }
+    ensures ok { OnOk result (Closes name.entry.now (writer_contents F.Made.contents trace) (F.files folder.old) (F.files folder.new)) }
+    ensures err { IfErr result (IsUnfinished name.entry.now (F.files folder.old) (F.files folder.new)) }
 {
     match trace.into_inner() {
         Ok(file) => {
@@ -247,6 +257,8 @@ fn trace_machine<'a, F: Folder, O: Write + Drop>(
         Sends (run_of run.now) (events_to trace.entry.stop (run_of run.now)) (O.contents output) (O.contents left.2)) }
     ensures files { OnOk result (Gains (F.files folder.old) (F.files folder.new) (whole trace.entry.name.now (lines_past run.now.table
         trace.entry.skipped 0 (events_to trace.entry.stop (run_of run.now)) (opening run.now.image)))) }
+    ensures err { IfErr result (FailsTraced trace.entry.name.now (lines_past run.now.table trace.entry.skipped 0
+        (events_to trace.entry.stop (run_of run.now)) (opening run.now.image)) (F.files folder.old) (F.files folder.new)) }
 {
     let mut machine: ProgramMachine = Machine::new(alloc, &run.image)?;
     let mut lines = Writing::new(make_trace(alloc, folder, trace.name)?);
@@ -286,8 +298,9 @@ fn skipped<'a>(
 ) -> Result<u64, ProgramFault<'a>>
     requires range { IsRunnable run.now.schedule }
     requires stop { IfSome stop (IsPlaceOf run.now.schedule) }
-    ensures { IfOk result (λ skipped. trace_of run.now.request (run_of run.now) (events_to stop (run_of run.now))
+    ensures ok { IfOk result (λ skipped. trace_of run.now.request (run_of run.now) (events_to stop (run_of run.now))
         ≡ lines_past run.now.table skipped 0 (events_to stop (run_of run.now)) (opening run.now.image)) }
+    ensures err { IfErr result IsNoMemory }
 {
     let from = run.request.trace_from;
     match run.request.trace_last {
@@ -315,6 +328,8 @@ pub fn run_image<'a, F: Folder, O: Write + Drop>(
     ensures sent { IfOk result (λ left. Sends (run_of run.now) (events_to stop (run_of run.now)) (O.contents output) (O.contents left.2)) }
     ensures files { OnOk result (Traces run.now.request.trace
         (trace_of run.now.request (run_of run.now) (events_to stop (run_of run.now))) (F.files folder.old) (F.files folder.new)) }
+    ensures err { IfErr result (FailsToTrace run.now.request.trace
+        (trace_of run.now.request (run_of run.now) (events_to stop (run_of run.now))) (F.files folder.old) (F.files folder.new)) }
 {
     match run.request.trace {
         Some(name) => {
@@ -341,6 +356,7 @@ fn stop_of<'a>(
     ensures stops { IfOk result (λ stop. is_some stop ≡ stops at (run_of run.now)) }
     ensures events { IfOk result (λ stop. events_to stop (run_of run.now) ≡ events_of at (run_of run.now)) }
     ensures place { IfOk result (λ stop. IfSome stop (IsPlaceOf run.now.schedule)) }
+    ensures err { IfErr result IsNoMemory }
 {
     match at {
         None => Ok(None),
@@ -363,8 +379,10 @@ pub fn run_freely<'a, F: Folder, O: Write + Drop>(
     output: O,
 ) -> Result<(Ended, O), ProgramFault<'a>>
     requires { IsRunnable run.now.schedule }
-    ensures { IfOk result (λ done. RunsFreely run.now.request profile.entry at (run_of run.now) done.0
+    ensures ok { IfOk result (λ done. RunsFreely run.now.request profile.entry at (run_of run.now) done.0
         (changed (O.contents output) (O.contents done.1) (F.files folder.old) (F.files folder.new))) }
+    ensures err { IfErr result (FailsFreely run.now.request profile.entry (run_of run.now) (events_of at (run_of run.now))
+        (F.files folder.old) (F.files folder.new)) }
 {
     let stop = stop_of(alloc, run, at)?;
     let (machine, ran, output) = run_profiled(alloc, folder, run, profile, stop, output)?;
@@ -379,7 +397,8 @@ pub fn run_whole<'a, O: Write + Drop>(
     output: O,
 ) -> Result<(Ended, O), ProgramFault<'a>>
     requires { IsRunnable run.now.schedule }
-    ensures { IfOk result (λ done. Runs (run_of run.now) None run.now.request.quiet done.0 (O.contents output) (O.contents done.1)) }
+    ensures ok { IfOk result (λ done. Runs (run_of run.now) None run.now.request.quiet done.0 (O.contents output) (O.contents done.1)) }
+    ensures err { IfErr result IsUnsentOrNoMemory }
 {
     let (machine, ran, output) = run_machine(alloc, run, None, output)?;
     let ended = ending(alloc, run, None, &machine, ran)?;
@@ -391,7 +410,8 @@ pub fn run_first<'a, O: Write + Drop>(
     alloc: Global,
     output: O,
 ) -> Result<(Ended, O), ProgramFault<'a>>
-    ensures { IfOk result (λ done. Runs first_run None false done.0 (O.contents output) (O.contents done.1)) }
+    ensures ok { IfOk result (λ done. Runs first_run None false done.0 (O.contents output) (O.contents done.1)) }
+    ensures err { IfErr result IsFirstFault }
 {
     let image = Image::build(alloc, 1, ENTRY, 0, &[(ENTRY, &FIRST)])?;
     let schedule = Schedule {

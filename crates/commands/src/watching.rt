@@ -1,10 +1,11 @@
 //! Runs that a policy watches.
 
-ghost use Rattle.std.specs.Prelude.{◌≡◌, ◌≤◌, ◌<◌, [], true, false, length, IfOk, string_bytes, vec_len};
+ghost use Rattle.std.specs.Prelude.{◌≡◌, ◌≤◌, ◌<◌, [], true, false, length, IfErr, IfOk, string_bytes, vec_len};
 ghost use Rattle.reach.specs.Reach.{members_in};
 ghost use Rattle.schedules.specs.Schedule.{IsRunnable};
-ghost use Rattle.commands.specs.Files.{changed};
+ghost use Rattle.commands.specs.Files.{IsNoMemory, changed};
 ghost use Rattle.commands.specs.Loading.{AreNumbered, IsReady, run_of};
+ghost use Rattle.commands.specs.RunFaults.{FailsBy, FailsWatched};
 ghost use Rattle.commands.specs.Watching.{IsStopOf, IsWatchedRun, RunsBy, TellsRefused};
 
 use crate::fault::ProgramFault;
@@ -34,6 +35,7 @@ fn stop_lines<'a>(
     ensures quiet { run.now.request.quiet ≡ true → IfOk result (λ text. string_bytes text ≡ []) }
     ensures told { run.now.request.quiet ≡ false → IfOk result (λ text.
         TellsRefused rules.now run.now.table breach.refused breach.number machine.now (string_bytes text)) }
+    ensures err { IfErr result IsNoMemory }
 {
     if run.request.quiet {
         return Ok(String::new(alloc));
@@ -63,7 +65,8 @@ fn stop_of<'a>(
 ) -> Result<Option<Stop>, ProgramFault<'a>>
     requires numbered { AreNumbered rules.now }
     requires range { IsRunnable run.now.schedule }
-    ensures { IfOk result (IsStopOf rules.now (run_of run.now) run.now.request.quiet) }
+    ensures ok { IfOk result (IsStopOf rules.now (run_of run.now) run.now.request.quiet) }
+    ensures err { IfErr result IsNoMemory }
 {
     let mut machine: ProgramMachine = Machine::new(alloc, &run.image)?;
     match find_breach(
@@ -94,8 +97,10 @@ fn run_watched<'a, F: Folder, O: Write + Drop>(
 ) -> Result<(Ended, O), ProgramFault<'a>>
     requires numbered { AreNumbered rules.now }
     requires range { IsRunnable run.now.schedule }
-    ensures { IfOk result (λ done. IsWatchedRun rules.now run.now.request profile.entry (run_of run.now) done.0
+    ensures ok { IfOk result (λ done. IsWatchedRun rules.now run.now.request profile.entry (run_of run.now) done.0
         (changed (O.contents output) (O.contents done.1) (F.files folder.old) (F.files folder.new))) }
+    ensures err { IfErr result (FailsWatched rules.now run.now.request profile.entry (run_of run.now)
+        (F.files folder.old) (F.files folder.new)) }
 {
     match stop_of(alloc, run, rules)? {
         Some(stop) => {
@@ -120,8 +125,10 @@ pub fn run_loaded<'a, F: Folder, O: Write + Drop>(
     output: O,
 ) -> Result<(Ended, O), ProgramFault<'a>>
     requires { IsReady run.now }
-    ensures { IfOk result (λ done. RunsBy run.now.rules run.now.request profile.entry at (run_of run.now) done.0
+    ensures ok { IfOk result (λ done. RunsBy run.now.rules run.now.request profile.entry at (run_of run.now) done.0
         (changed (O.contents output) (O.contents done.1) (F.files folder.old) (F.files folder.new))) }
+    ensures err { IfErr result (FailsBy run.now.rules run.now.request profile.entry at (run_of run.now)
+        (F.files folder.old) (F.files folder.new)) }
 {
     match &run.rules {
         None => run_freely(alloc, folder, run, profile, at, output),

@@ -92,7 +92,7 @@ fewer-known Known m address size few less data' =
     }
 
 -- a load of data counts as one of 8 bytes
-known-load : (Known : ℕ → Type 0) (m : Memory) (address : ℕ) (size : Size) → IsKnownData Known m address 8
+pub known-load : (Known : ℕ → Type 0) (m : Memory) (address : ℕ) (size : Size) → IsKnownData Known m address 8
     → IsKnownData Known m address (bytes_of size)
 known-load Known m address size known = fewer-known Known m address 8 (bytes_of size) (few-bytes size) known
 
@@ -131,7 +131,7 @@ module _ (Known : ℕ → Type 0) (insn : Insn) (a : State) where
   looks-capability row place is (Ok done) known = looks-capability-at row (subst (λ p. IsKnownData Known a.memory p 16) is known)
   looks-capability row place is (Err why) known = tt
 
-some-holds : {Y : Type 0} (P : Y → Type 0) (o : Option Y) (y : Y) → o ≡ Some y → IfSome o P → P y
+pub some-holds : {Y : Type 0} (P : Y → Type 0) (o : Option Y) (y : Y) → o ≡ Some y → IfSome o P → P y
 some-holds P None y is holds = cc
 some-holds P (Some x) y is holds = let same : x ≡ y = cc in subst P same holds
 

@@ -110,7 +110,8 @@ steady-value x y s p q n same steady =
     ap (λ o. option_or o (listed_value y n)) (values-same (parts-of y s) p q x.mcycle y.mcycle x.minstret y.minstret n steady)
     ∙ ap (λ front. option_or (value_of_csr n (front ++ ((MIP, p) ∷ (MCYCLE, x.mcycle) ∷ (MINSTRET, x.minstret) ∷ []))) (listed_value y n))
     (parts-same x y s same)
-    ∙ ap (λ kept. option_or (value_of_csr n (csr_values x s p)) (option_map (λ holds. read_by holds (slice_index kept (place_of_csr n))) (holds_at n)))
+    ∙ ap (λ kept. option_or (value_of_csr n (csr_values x s p))
+    (option_map (λ holds. read_by holds (slice_index kept (place_of_csr n))) (holds_at n)))
     same.kept
 
 module _ (s : State) (c : Csrs) (d : Devices) (insn : Insn) (csrs : SameCsrs s.csrs c) where
@@ -346,7 +347,8 @@ module _ (Known : ℕ → Type 0) (a : State) (m : Memory) (c : Csrs) (d : Devic
   stands-applied (effect.Enter e) leaves sound = ended (effect.Enter e) refl refl (counted-same a.csrs c csrs) memory running
   stands-applied (effect.Special w) leaves sound = ended (effect.Special w) refl refl (counted-same a.csrs c csrs) memory running
   stands-applied (effect.Csr w) leaves sound =
-      ended (effect.Csr w) refl refl (written-same w.number w.value (counted a.csrs) (counted c) (counted-same a.csrs c csrs)) memory running
+      ended (effect.Csr w) refl refl (written-same w.number w.value (counted a.csrs) (counted c) (counted-same a.csrs c csrs)) memory
+      running
   stands-applied (effect.Return sealed) leaves sound = ended (effect.Return sealed) refl refl (record {
     mstatus_mie = csrs.mstatus_mpie;
     mstatus_mpie = refl;

@@ -10,24 +10,22 @@ use Rattle.cap_bounds.specs.RecordLaws.{value_of-word_of}
 use Rattle.cap_rights.specs.Derivations.{equal_exact}
 use Rattle.cap_rights.specs.Opened.{opened}
 use Rattle.tagged_memory.specs.Memory.{Memory, has_tag, word_at}
-use Rattle.steps.specs.State.{State}
 use Rattle.reached.specs.Reached.{IsReachedFrom, from_root, from_granule}
 use Rattle.doors.specs.Closed.{HasDoors, IsOpenedBy}
-use Rattle.doors.specs.Roots.{roots_of, specials_of}
 use Rattle.every_run.specs.Members.{HoldAll}
 
 -- what a value is without its seal is among the values, if one of them opens it
 abbrev pub HasBehind : List CapValue → CapValue → Type 0
 HasBehind vs v = (key : CapValue) → Contains vs key → IsOpenedBy v key → Contains vs (opened v)
 
--- the search begins with all registers, and perhaps with more
-abbrev pub BeginsWithAll : List CapValue → State → Type 0
-BeginsWithAll starts s = (v : CapValue) → Contains (roots_of s ++ specials_of s.scrs) v → Contains starts v
+-- the search begins with what it is to find, and perhaps with more
+abbrev pub BeginsWithAll : List CapValue → List CapValue → Type 0
+BeginsWithAll starts begin = (v : CapValue) → Contains begin v → Contains starts v
 
-pub all-found : (s : State) (starts none : List CapValue) (m : Memory) → m ≡ s.memory → BeginsWithAll starts s → (vs : List CapValue)
+pub all-found : (begin starts none : List CapValue) (m memory : Memory) → m ≡ memory → BeginsWithAll starts begin → (vs : List CapValue)
     → ((v : CapValue) → Contains vs v → IsReachedFrom starts none m v) → ((v : CapValue) → IsReachedFrom starts none m v → Contains vs v)
-    → HasDoors (Contains vs) → HoldAll vs s
-all-found s starts none m same begun vs sound complete doors = record {
+    → HasDoors (Contains vs) → HoldAll vs begin memory
+all-found begin starts none m memory same begun vs sound complete doors = record {
   roots = λ v tagged there. complete v (from_root tagged (begun v there));
   granules = λ c v granule member opens here.
       complete v (from_granule granule (sound c member) opens (record {
@@ -54,8 +52,8 @@ same-value v w sound other same =
     ∙ value_of-word_of w other
 
 -- a search that begins with more begins with all
-pub begun-more : {X : Type 0} (f : X → CapValue) (s : State) (starts later : List X) (x : X) → later ≡ starts ++ x ∷ []
-    → BeginsWithAll (map f starts) s → BeginsWithAll (map f later) s
-begun-more f s starts later x pushed begun v there =
+pub begun-more : {X : Type 0} (f : X → CapValue) (begin : List CapValue) (starts later : List X) (x : X) → later ≡ starts ++ x ∷ []
+    → BeginsWithAll (map f starts) begin → BeginsWithAll (map f later) begin
+begun-more f begin starts later x pushed begun v there =
     subst (λ xs. Contains xs v) (sym (ap (map f) pushed ∙ map-append f starts (x ∷ [])))
     (Contains-append_left (map f starts) (f x ∷ []) v (begun v there))

@@ -3,3 +3,7 @@ mod Walking
 mod Enclosed
 mod Checked
 mod Found
+mod Looks
+mod Follows
+mod Handling
+mod Handlers

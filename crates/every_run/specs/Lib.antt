@@ -5,3 +5,4 @@ pub mod Known
 pub mod Stands
 pub mod Lasting
 pub mod Members
+pub mod Handled

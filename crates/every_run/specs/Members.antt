@@ -1,22 +1,20 @@
 -- Lists of capabilities that enclose the code of a state.
-use Rattle.std.specs.Prelude.{◌≡◌, ◌⊎◌, ◌++◌, ◌<◌, ℕ, true, false, List, Contains}
+use Rattle.std.specs.Prelude.{◌≡◌, ◌⊎◌, ◌<◌, ℕ, true, false, List, Contains}
 use Rattle.cap_bounds.specs.CapValue.{CapValue, is_tagged, is_sealed, value_base, value_top}
 use Rattle.cap_rights.specs.Permission.{permits}
 use Rattle.cap_rights.specs.declared.permission.Permission.TheVariants.{Seal, Unseal}
 use Rattle.cap_rights.specs.Rights.{OpensGranule, OpensSystem}
 use Rattle.tagged_memory.specs.Memory.{Memory, has_tag}
-use Rattle.steps.specs.State.{State}
 use Rattle.authority.specs.Reachable.{IsHeldAt}
 use Rattle.doors.specs.Closed.{HasDoors}
-use Rattle.doors.specs.Roots.{roots_of, specials_of}
 use Rattle.policy.specs.Rule.{BreaksRule}
 use Rattle.policy.specs.Terms.{Terms}
 use Rattle.every_run.specs.Stands.{AreKnown}
 
--- Among the values is all that the registers hold, the special ones too, what any of them opens, and what its doors lead to.
-pub record HoldAll (vs : List CapValue) (s : State) : Type 0 where
-  pub roots : (v : CapValue) → is_tagged v ≡ true → Contains (roots_of s ++ specials_of s.scrs) v → Contains vs v
-  pub granules : (c v : CapValue) (granule : ℕ) → Contains vs c → OpensGranule c granule → IsHeldAt s.memory granule v → Contains vs v
+-- Among the values is all that a search begins with, what any of them opens, and what its doors lead to.
+pub record HoldAll (vs begin : List CapValue) (m : Memory) : Type 0 where
+  pub roots : (v : CapValue) → is_tagged v ≡ true → Contains begin v → Contains vs v
+  pub granules : (c v : CapValue) (granule : ℕ) → Contains vs c → OpensGranule c granule → IsHeldAt m granule v → Contains vs v
   pub doors : HasDoors (Contains vs)
 
 -- unsealed, with Seal or Unseal, and its bounds aren't empty

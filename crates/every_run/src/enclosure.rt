@@ -6,15 +6,19 @@ ghost use Rattle.reach.specs.Ranges.{IsIn};
 ghost use Rattle.policy.specs.Terms.{terms_of};
 ghost use Rattle.every_run.specs.Known.{IsOutside};
 ghost use Rattle.every_run.specs.Lasting.{AlwaysHoldFrom};
-ghost use Rattle.every_run.specs.Members.{AreHarmless, AreTagsKnown, KeepEach, MaySeal};
+ghost use Rattle.doors.specs.Roots.{roots_of};
+ghost use Rattle.every_run.specs.Members.{AreHarmless, AreTagsKnown, HoldAll, KeepEach, MaySeal};
 ghost use Rattle.every_run.specs.Opens.{IsHolds};
 
 use crate::breach::check_breaches;
-use crate::laws::enclosed_states_keep_rules;
-use crate::members::all_held;
+use crate::handler::handle;
+use crate::laws::{enclosed_states_keep_rules, handled_traps_keep_rules};
+use crate::members::{all_held, all_roots};
+use crate::step::pc_of;
 use crate::verdict::{Unshown, Verdict};
 use cap_bounds::CapRep;
 use cap_rights::{Permission, allows, opens_system};
+use doors::roots;
 use hart::Hart;
 use policy::Rule;
 use reach::Range;
@@ -84,7 +88,7 @@ fn check_members<C: CapRep>(
     check_breaches(members, rules)
 }
 
-/// The verdict where any code begins to run, after so many steps.
+/// The verdict where any code begins to run, after so many steps, and a trap leads to any code.
 pub(crate) fn enclosed<C: CapRep>(
     alloc: Global,
     hart: &Hart<C>,
@@ -96,12 +100,59 @@ pub(crate) fn enclosed<C: CapRep>(
 {
     enclosed_states_keep_rules();
     hart.is_state();
-    let Some(held) = all_held(alloc, hart)? else {
+    let begin = all_roots(alloc, hart)?;
+    let Some(held) = all_held(alloc, hart, &begin)? else {
         return Ok(Verdict::Unshown(Unshown::ManyDoors));
     };
     let members = held.len();
     match check_members(hart.memory(), any, rules, &held) {
         Ok(()) => Ok(Verdict::Holds { steps, members }),
+        Err(why) => Ok(Verdict::Unshown(why)),
+    }
+}
+
+/// What the code of a trap comes to, where any code that the members bound is entered again: how many steps it takes.
+fn guarded_by<C: CapRep>(
+    hart: &mut Hart<C>,
+    any: &[Range],
+    rules: &[Rule],
+    members: &[Member<C>],
+    most: u64,
+) -> Result<u64, Unshown>
+    ensures { OnOk result (HoldAll (values C.value members.now) (roots_of hart.old) hart.old.memory
+        → AlwaysHoldFrom (IsOutside any.now) (terms_of rules.now) hart.old) }
+{
+    handled_traps_keep_rules();
+    hart.is_state();
+    if hart.halted().is_some() {
+        return Err(Unshown::Halted { pc: pc_of(hart) });
+    }
+    check_members(hart.memory(), any, rules, members)?;
+    handle(hart, members, any, rules, most)
+}
+
+/// The verdict where any code begins to run, after so many steps, and a trap enters the image's own code: that is done for at most `most`
+/// steps.
+pub(crate) fn guarded<C: CapRep>(
+    alloc: Global,
+    hart: &mut Hart<C>,
+    any: &[Range],
+    rules: &[Rule],
+    steps: u64,
+    most: u64,
+) -> Result<Verdict, AllocError>
+    ensures { IfOk result (λ v. IsHolds v → AlwaysHoldFrom (IsOutside any.now) (terms_of rules.now) hart.old) }
+{
+    let begin = roots(alloc, hart)?;
+    let Some(held) = all_held(alloc, hart, &begin)? else {
+        return Ok(Verdict::Unshown(Unshown::ManyDoors));
+    };
+    let members = held.len();
+    match guarded_by(hart, any, rules, &held, most) {
+        Ok(more) => Ok(Verdict::Holds {
+            steps: steps.saturating_add(more),
+            members,
+        }),
         Err(why) => Ok(Verdict::Unshown(why)),
     }
 }

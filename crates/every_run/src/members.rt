@@ -18,7 +18,7 @@ use std::alloc::{AllocError, Global};
 const MOST_DOORS: u32 = 4096;
 
 /// Whether a capability is a member.
-fn is_member<C: CapRep>(members: &[Member<C>], cap: C) -> bool
+pub(crate) fn is_member<C: CapRep>(members: &[Member<C>], cap: C) -> bool
     ensures { IsTrue result → Contains (values C.value members.now) (C.value cap) }
 {
     for member in members {
@@ -57,8 +57,9 @@ fn missing<C: CapRep>(members: &[Member<C>]) -> Option<C>
     None
 }
 
-/// What the search begins with: the 32 registers, PCC and DDC, and what a trap makes PCC or leaves to code: MTCC, MTDC, MScratchC, MEPCC.
-fn starts<C: CapRep>(alloc: Global, hart: &Hart<C>) -> Result<Vec<C>, AllocError>
+/// Where a search begins whose code a trap doesn't leave: the 32 registers, PCC and DDC, and what a trap makes PCC or leaves to code: MTCC,
+/// MTDC, MScratchC, MEPCC.
+pub(crate) fn all_roots<C: CapRep>(alloc: Global, hart: &Hart<C>) -> Result<Vec<C>, AllocError>
     ensures { IfOk result (λ found. map C.value found.items ≡ roots_of hart.now ++ specials_of hart.now.scrs) }
 {
     let mut found = roots(alloc, hart)?;
@@ -67,15 +68,18 @@ fn starts<C: CapRep>(alloc: Global, hart: &Hart<C>) -> Result<Vec<C>, AllocError
     Ok(found)
 }
 
-/// All that the registers hold, the special ones too, what any of it opens, and what its doors lead to; or `None` where there are too many
-/// doors.
+/// All that a search from these capabilities leads to: what any of them opens, and what its doors lead to; or `None` where there are too
+/// many doors.
 pub(crate) fn all_held<C: CapRep>(
     alloc: Global,
     hart: &Hart<C>,
+    begin: &[C],
 ) -> Result<Option<Vec<Member<C>>>, AllocError>
-    ensures { IfOk result (λ found. IfSome found (λ members. HoldAll (values C.value members.items) hart.now)) }
+    ensures { IfOk result (λ found. IfSome found (λ members.
+        HoldAll (values C.value members.items) (map C.value begin.now) hart.now.memory)) }
 {
-    let mut starts = starts(alloc, hart)?;
+    let mut starts = Vec::new(alloc);
+    starts.extend_from_slice(begin)?;
     let none: Vec<C> = Vec::new(alloc);
     for _ in 0..MOST_DOORS {
         let members = closure(alloc, &starts, &none, hart.memory())?;

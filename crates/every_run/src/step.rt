@@ -52,7 +52,7 @@ fn check_state<C: CapRep>(hart: &Hart<C>, any: &[Range]) -> Result<(), Unshown>
 }
 
 /// That no rule applies to what is fetched at an address, if anything is.
-fn check_rules(rules: &[Rule], at: Option<u64>, pc: u64) -> Result<(), Unshown>
+pub(crate) fn check_rules(rules: &[Rule], at: Option<u64>, pc: u64) -> Result<(), Unshown>
     ensures { OnOk result ((rule : Terms) → Contains (terms_of rules.now) rule → Applies rule at → ⊥) }
 {
     for (rule, terms) in rules.iter().enumerate() {
@@ -64,7 +64,7 @@ fn check_rules(rules: &[Rule], at: Option<u64>, pc: u64) -> Result<(), Unshown>
 }
 
 /// Where an instruction accesses memory: rs1's number and the immediate.
-fn access_place<C: CapRep>(hart: &Hart<C>, insn: Insn) -> u64
+pub(crate) fn access_place<C: CapRep>(hart: &Hart<C>, insn: Insn) -> u64
     requires { HasRegisters insn }
     ensures { result ≡ place_of insn hart.now }
 {

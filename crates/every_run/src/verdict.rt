@@ -10,7 +10,7 @@ use reached::Place;
 pub enum Verdict {
     /// Every run does.
     Holds {
-        /// The steps of the image's own code, before any code runs.
+        /// The steps of the image's own code: before any code runs, and in a trap.
         steps: u64,
         /// How many capabilities that code can come to hold, from which it can make others.
         members: usize,
@@ -59,6 +59,10 @@ pub enum Unshown {
     TaggedCode { address: u64 },
     /// More doors lead on than are followed.
     ManyDoors,
+    /// A step in a trap isn't followed: it looks at what is unknown, traps, stores into RAM or uses a control and status register.
+    Unfollowed { pc: u64 },
+    /// The return from a trap would give any code what it doesn't come to hold, or leave MScratchC another.
+    Returns { place: Place },
     /// A capability that any code comes to hold opens the system registers.
     OpensSystem { place: Place },
     /// One may seal or unseal values.

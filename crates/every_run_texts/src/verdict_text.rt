@@ -125,6 +125,8 @@ fn append_why(
         Unshown::MoreSteps { most } => append_steps(text, most),
         Unshown::TaggedCode { address } => put_at(text, symbols, "a tag stands at ", address),
         Unshown::ManyDoors => append(text, &[Text("too many doors")]),
+        Unshown::Unfollowed { pc } => put_at(text, symbols, "isn't followed at ", pc),
+        Unshown::Returns { place } => put_held(text, symbols, "returns\n  held  ", place),
         Unshown::OpensSystem { place } => put_held(text, symbols, "system\n  held  ", place),
         Unshown::MaySeal { place } => put_held(text, symbols, "seal\n  held  ", place),
         Unshown::Breaks { rule, ban, place } => {

@@ -34,8 +34,8 @@ pub struct Breach {
 ///
 /// # Errors
 ///
-/// Out of memory for what is known of the rules, before the run, or to find out what is reachable, before a step of it. The machine then
-/// stands there, and each step before kept to each rule that applied.
+/// Out of memory for what is known of the rules, before the run, or to find out what is reachable, before a step of it. How much that takes
+/// is the allocator's, and no contract says it. The machine then stands there, and each step before kept to each rule that applied.
 pub fn find_breach<C: CapRep>(
     alloc: Global,
     machine: &mut Machine<C>,

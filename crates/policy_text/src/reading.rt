@@ -50,7 +50,8 @@ fn keep<'a>(
 
 /// Reads a policy, with the addresses of labels from a table.
 ///
-/// The fault is the first faulty line, or that there is no memory.
+/// The fault is the first faulty line. Memory comes in its place where what was read, or is to be, can't grow: how much that takes is the
+/// allocator's, and no contract says it.
 pub fn read_policy(alloc: Global, text: &[u8], symbols: &Symbols) -> Result<Policy, PolicyTextFault>
     ensures ok { IfOk result (λ policy. policy_of symbols.now text.now ≡ Ok (seen policy)) }
     ensures paired { IfOk result (λ policy. vec_len policy.rules ≡ vec_len policy.lines) }

@@ -1,3 +1,4 @@
 -- What to read
 pub mod Debugging
+pub mod Telling
 pub mod Carrying

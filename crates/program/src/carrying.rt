@@ -1,11 +1,18 @@
 //! A command line carried out, and the status that it ends with.
 
 ghost use Rattle.command_line.specs.CommandLine.{AreInRange, IsSound};
-ghost use Rattle.std.specs.Prelude.{◌≡◌, ◌≤◌, ◌⊎◌, Some, false, true, map, IfOk};
+ghost use Rattle.std.specs.Prelude.{◌≡◌, ◌≤◌, ◌<◌, ◌-◌, ◌^◌, ◌⊎◌, ◌++◌, ℕ, Bool, List, [], Some, false, true};
+ghost use Rattle.std.specs.Prelude.{codes, map, IfErr, IfOk, OnOk};
 ghost use Rattle.std.specs.Io.KnownBytes.{Appends};
+ghost use Rattle.image.specs.Devices.{Counts};
 ghost use Rattle.sim_run.specs.Verdict.{status_of as status_of_run};
-ghost use Rattle.program.specs.Carrying.{HasStatus, IsCarriedOut, IsSpared, IsRefused, asks_version, status_of_done, version_line};
-ghost use Rattle.commands.specs.Files.{changed};
+ghost use Rattle.program.specs.Carrying.{FailsAs, FailsToCarry, HasStatus, IsCarriedOut, IsNoPlanFault, IsSpared, IsRefused};
+ghost use Rattle.program.specs.Carrying.{asks_version, status_of_done, version_line};
+ghost use Rattle.program.specs.Telling.{Tells, done_text, end_text, is_quiet, same_file};
+ghost use Rattle.commands.specs.FaultTexts.{fault_text};
+ghost use Rattle.commands.specs.declared.fault.ProgramFault.{ProgramFault};
+ghost use Rattle.commands.specs.Files.{IsUnsent, changed};
+ghost use Rattle.commands.specs.RunFaults.{FailsToRun};
 ghost use Rattle.commands.specs.Overwriting.{Overwrites};
 ghost use Rattle.commands.specs.Watching.{RunsFile};
 
@@ -13,9 +20,9 @@ use crate::debugging::debug_file;
 use command_line::{Plan, PlanFault, RunRequest, plan};
 use commands::{
     Ended, Folder, ProgramFault, assemble_file, audit_file, image_file, list_file, load,
-    overwrites, prove_file, run_first, run_loaded, show_bounds, show_word, stop_at,
+    overwrites, prove_file, put_fault, run_first, run_loaded, show_bounds, show_word, stop_at,
 };
-use image::DeviceFailed;
+use image::{DeviceFailed, Sink, write_all};
 use sim_run::{StopAt, verdict};
 use std::alloc::Global;
 use std::io::{Read, Write};
@@ -54,39 +61,44 @@ pub struct Answer<O> {
     pub output: Option<O>,
 }
 
+/// Writes the line of how a run ended, and where.
+fn put_end<E: Sink>(errors: &mut E, line: &str, place: &str) -> Result<(), DeviceFailed>
+    requires { E.failed errors.old < 2 ^ 64 - 1 }
+    ensures ok { OnOk result (Appends (E.held errors.old) (E.held errors.new) (line.now ++ codes "\n" ++ place.now)) }
+    ensures count { Counts (E.failed errors.old) (E.failed errors.new) result }
+{
+    write_all(errors, line.as_bytes())?;
+    write_all(errors, b"\n")?;
+    write_all(errors, place.as_bytes())
+}
+
 /// Tells how a run ended, and where; and answers the status.
-fn tell_end<E: Write>(errors: &mut E, ended: &Ended) -> u8
-    ensures { result ≡ status_of_run ended.now.end }
+fn tell_end<E: Sink>(errors: &mut E, ended: &Ended) -> u8
+    requires { E.failed errors.old < 2 ^ 64 - 1 }
+    ensures status { result ≡ status_of_run ended.now.end }
+    ensures told { Tells (E.failed errors.old) (E.failed errors.new) (E.held errors.old) (E.held errors.new) (end_text ended.now) }
 {
     let (status, line) = verdict(ended.end);
-    if status != 0 && writeln!(errors, "{line}").is_ok() {
-        let _ = errors.write_all(ended.place.as_bytes());
+    if status != 0 {
+        let _ = put_end(errors, line.as_str(), ended.place.as_str());
     }
     status
 }
 
-/// Tells a fault, and answers the status.
-pub fn tell_fault<E: Write>(errors: &mut E, fault: &ProgramFault<'_>) -> u8
-    ensures { result ≡ 3 }
+/// Tells a fault, by its first line alone or with the lines that help, and answers the status.
+pub fn tell_fault<E: Sink>(errors: &mut E, alone: bool, fault: &ProgramFault<'_>) -> u8
+    requires { E.failed errors.old < 2 ^ 64 - 1 }
+    ensures status { result ≡ 3 }
+    ensures told { Tells (E.failed errors.old) (E.failed errors.new) (E.held errors.old) (E.held errors.new) (fault_text alone fault.now) }
 {
-    let _ = writeln!(errors, "cherisim: {fault}");
-    FAULT
-}
-
-/// Tells a fault by its text alone, which is the first line of what is told of it, and answers the status.
-fn tell_text<E: Write>(alloc: Global, errors: &mut E, fault: &ProgramFault<'_>) -> u8
-    ensures { result ≡ 3 }
-{
-    let Ok(told) = format!(in alloc; "{fault}") else {
-        return tell_fault(errors, fault);
-    };
-    let text = told.split('\n').next().unwrap_or("");
-    let _ = writeln!(errors, "cherisim: {text}");
+    let _ = put_fault(errors, alone, fault);
     FAULT
 }
 
 /// Whether a plan leaves out what is told besides.
-fn is_quiet(plan: Plan<'_>) -> bool {
+fn is_quiet(plan: Plan<'_>) -> bool
+    ensures { result ≡ is_quiet plan.entry }
+{
     match plan {
         Plan::Asm { quiet, .. }
         | Plan::Image { quiet, .. }
@@ -111,8 +123,9 @@ fn run_file<'a, F: Folder, O: Write + Drop>(
     output: O,
 ) -> Result<(Ended, O), ProgramFault<'a>>
     requires { AreInRange request }
-    ensures { IfOk result (λ done. RunsFile request.entry profile.entry at done.0
+    ensures ok { IfOk result (λ done. RunsFile request.entry profile.entry at done.0
         (changed (O.contents output) (O.contents done.1) (F.files folder.old) (F.files folder.new))) }
+    ensures err { IfErr result (FailsToRun request.entry profile.entry at (F.files folder.old) (F.files folder.new)) }
 {
     match load(alloc, folder, request) {
         Ok(run) => run_loaded(alloc, folder, &run, profile, at, output),
@@ -129,8 +142,10 @@ fn carry_out<'a, F: Folder, I: Read + Drop, O: Write + Drop>(
     plan: Plan<'a>,
 ) -> Result<(Done, O), ProgramFault<'a>>
     requires { IsSound plan }
-    ensures { IfOk result (λ done. HasStatus plan.entry (I.remaining input)
-        (changed (O.contents output) (O.contents done.1) (F.files folder.old) (F.files folder.new)) (status_of_done done.0)) }
+    ensures ok { IfOk result (λ done. HasStatus plan.entry (I.remaining input)
+        (changed (O.contents output) (O.contents done.1) (F.files folder.old) (F.files folder.new))
+        (done_text done.0) (status_of_done done.0)) }
+    ensures err { IfErr result (FailsAs plan.entry (F.files folder.old) (F.files folder.new)) }
 {
     match plan {
         Plan::First => {
@@ -219,8 +234,10 @@ fn carry_out<'a, F: Folder, I: Read + Drop, O: Write + Drop>(
 }
 
 /// Tells what became of a command that was carried out, and answers the status.
-fn tell_done<E: Write>(errors: &mut E, done: &Done) -> u8
-    ensures { result ≡ status_of_done done.now }
+fn tell_done<E: Sink>(errors: &mut E, done: &Done) -> u8
+    requires { E.failed errors.old < 2 ^ 64 - 1 }
+    ensures status { result ≡ status_of_done done.now }
+    ensures told { Tells (E.failed errors.old) (E.failed errors.new) (E.held errors.old) (E.held errors.new) (done_text done.now) }
 {
     match done {
         Done::All | Done::Audit(0) | Done::Proof(true) => 0,
@@ -230,7 +247,7 @@ fn tell_done<E: Write>(errors: &mut E, done: &Done) -> u8
 }
 
 /// Does what the plan says, and answers the status and the output.
-fn carry<'a, F: Folder, I: Read + Drop, O: Write + Drop, E: Write>(
+fn carry<'a, F: Folder, I: Read + Drop, O: Write + Drop, E: Sink>(
     alloc: Global,
     folder: &mut F,
     input: I,
@@ -238,10 +255,16 @@ fn carry<'a, F: Folder, I: Read + Drop, O: Write + Drop, E: Write>(
     errors: &mut E,
     plan: Plan<'a>,
 ) -> Answer<O>
-    requires { IsSound plan }
-    ensures done { result.status ≤ 1 → (out : O) × (result.output ≡ Some out)
+    requires sound { IsSound plan }
+    requires failed { E.failed errors.old < 2 ^ 64 - 1 }
+    ensures done { result.status ≤ 1 → (out : O) × (told : List ℕ) × (result.output ≡ Some out)
         × HasStatus plan.entry (I.remaining input)
-        (changed (O.contents output) (O.contents out) (F.files folder.old) (F.files folder.new)) result.status }
+        (changed (O.contents output) (O.contents out) (F.files folder.old) (F.files folder.new)) told result.status
+        × Tells (E.failed errors.old) (E.failed errors.new) (E.held errors.old) (E.held errors.new) told }
+    ensures fault { result.status ≡ 3
+        → (fault : ProgramFault) × FailsAs plan.entry (F.files folder.old) (F.files folder.new) fault
+        × Tells (E.failed errors.old) (E.failed errors.new) (E.held errors.old) (E.held errors.new)
+        (fault_text (is_quiet plan.entry) fault) }
     ensures otherwise { (result.status ≤ 1) ⊎ (result.status ≡ 3) }
 {
     match carry_out(alloc, folder, input, output, plan) {
@@ -249,22 +272,15 @@ fn carry<'a, F: Folder, I: Read + Drop, O: Write + Drop, E: Write>(
             status: tell_done(errors, &done),
             output: Some(output),
         },
-        Err(fault) => {
-            let status = if is_quiet(plan) {
-                tell_text(alloc, errors, &fault)
-            } else {
-                tell_fault(errors, &fault)
-            };
-            Answer {
-                status,
-                output: None,
-            }
-        }
+        Err(fault) => Answer {
+            status: tell_fault(errors, is_quiet(plan), &fault),
+            output: None,
+        },
     }
 }
 
 /// Does what the plan says, unless a file would be written over another of the command, and answers the status and the output.
-fn carry_apart<'a, F: Folder, I: Read + Drop, O: Write + Drop, E: Write>(
+fn carry_apart<'a, F: Folder, I: Read + Drop, O: Write + Drop, E: Sink>(
     alloc: Global,
     folder: &mut F,
     input: I,
@@ -272,13 +288,20 @@ fn carry_apart<'a, F: Folder, I: Read + Drop, O: Write + Drop, E: Write>(
     errors: &mut E,
     plan: Plan<'a>,
 ) -> Answer<O>
-    requires { IsSound plan }
-    ensures done { result.status ≤ 1 → (out : O) × (result.output ≡ Some out)
+    requires sound { IsSound plan }
+    requires failed { E.failed errors.old < 2 ^ 64 - 1 }
+    ensures done { result.status ≤ 1 → (out : O) × (told : List ℕ) × (result.output ≡ Some out)
         × HasStatus plan.entry (I.remaining input)
-        (changed (O.contents output) (O.contents out) (F.files folder.old) (F.files folder.new)) result.status }
+        (changed (O.contents output) (O.contents out) (F.files folder.old) (F.files folder.new)) told result.status
+        × Tells (E.failed errors.old) (E.failed errors.new) (E.held errors.old) (E.held errors.new) told }
     ensures apart { result.status ≤ 1 → Overwrites (F.same folder.old) plan.entry false }
     ensures refused { result.status ≡ 2
-        → Overwrites (F.same folder.old) plan.entry true × (F.files folder.new ≡ F.files folder.old) }
+        → Overwrites (F.same folder.old) plan.entry true × (F.files folder.new ≡ F.files folder.old)
+        × Tells (E.failed errors.old) (E.failed errors.new) (E.held errors.old) (E.held errors.new) same_file }
+    ensures fault { result.status ≡ 3 → Overwrites (F.same folder.old) plan.entry false
+        × (fault : ProgramFault) × FailsAs plan.entry (F.files folder.old) (F.files folder.new) fault
+        × Tells (E.failed errors.old) (E.failed errors.new) (E.held errors.old) (E.held errors.new)
+        (fault_text (is_quiet plan.entry) fault) }
     ensures most { result.status ≤ 3 }
 {
     if overwrites(folder, plan) {
@@ -298,15 +321,19 @@ fn asks_version(words: &[&str]) -> bool
 }
 
 /// Writes a text that was asked for, and answers this status where it could be written.
-fn show<O: Write + Drop, E: Write>(
+fn show<O: Write + Drop, E: Sink>(
     mut output: O,
     errors: &mut E,
     text: &str,
     status: u8,
 ) -> Answer<O>
+    requires { E.failed errors.old < 2 ^ 64 - 1 }
     ensures status { (result.status ≡ status) ⊎ (result.status ≡ 3) }
     ensures written { (result.status ≡ 3 → ⊥) → (out : O) × (result.output ≡ Some out)
-        × Appends (O.contents output) (O.contents out) text.now }
+        × Appends (O.contents output) (O.contents out) text.now
+        × Tells (E.failed errors.old) (E.failed errors.new) (E.held errors.old) (E.held errors.new) [] }
+    ensures fault { result.status ≡ 3 → (status ≡ 3 → ⊥) → (fault : ProgramFault) × IsUnsent fault
+        × Tells (E.failed errors.old) (E.failed errors.new) (E.held errors.old) (E.held errors.new) (fault_text false fault) }
 {
     match output.write_all(text.as_bytes()) {
         Ok(()) => Answer {
@@ -314,33 +341,40 @@ fn show<O: Write + Drop, E: Write>(
             output: Some(output),
         },
         Err(_) => Answer {
-            status: tell_fault(errors, &ProgramFault::Write(DeviceFailed)),
+            status: tell_fault(errors, false, &ProgramFault::Write(DeviceFailed)),
             output: None,
         },
     }
 }
 
 /// Tells why a command line is refused, and answers the status.
-pub fn refuse<E: Write>(errors: &mut E, text: &str) -> u8
-    ensures { result ≡ 2 }
+pub fn refuse<E: Sink>(errors: &mut E, text: &str) -> u8
+    requires { E.failed errors.old < 2 ^ 64 - 1 }
+    ensures status { result ≡ 2 }
+    ensures told { Tells (E.failed errors.old) (E.failed errors.new) (E.held errors.old) (E.held errors.new) text.now }
 {
-    let _ = errors.write_all(text.as_bytes());
+    let _ = write_all(errors, text.as_bytes());
     REFUSED
 }
 
 /// Tells why the words are no plan, or gives the help that they ask for, and answers the status.
-fn tell_no_plan<O: Write + Drop, E: Write>(output: O, errors: &mut E, fault: PlanFault) -> Answer<O>
+fn tell_no_plan<O: Write + Drop, E: Sink>(output: O, errors: &mut E, fault: PlanFault) -> Answer<O>
+    requires { E.failed errors.old < 2 ^ 64 - 1 }
     ensures memory { fault ≡ PlanFault.Memory → result.status ≡ 3 }
+    ensures fault { result.status ≡ 3 → (told : ProgramFault) × IsNoPlanFault fault told
+        × Tells (E.failed errors.old) (E.failed errors.new) (E.held errors.old) (E.held errors.new) (fault_text false told) }
     ensures otherwise { (result.status ≡ 2) ⊎ (result.status ≡ 3) }
 {
-    let status = match fault {
-        PlanFault::Memory => tell_fault(errors, &ProgramFault::Memory),
-        PlanFault::Help(text) => return show(output, errors, &text, REFUSED),
-        PlanFault::Refused(text) => refuse(errors, &text),
-    };
-    Answer {
-        status,
-        output: None,
+    match fault {
+        PlanFault::Memory => Answer {
+            status: tell_fault(errors, false, &ProgramFault::Memory),
+            output: None,
+        },
+        PlanFault::Help(text) => show(output, errors, &text, REFUSED),
+        PlanFault::Refused(text) => Answer {
+            status: refuse(errors, &text),
+            output: None,
+        },
     }
 }
 
@@ -350,8 +384,8 @@ fn tell_no_plan<O: Write + Drop, E: Write>(output: O, errors: &mut E, fault: Pla
 /// Answers the status: 0 for what was done, the version shown among it, and of a run where the machine halted with 0; 1 for a run that
 /// ended otherwise, an audit that found a part broken and a proof that wasn't found; 2 for a command line that was refused or asks for
 /// help, and where a file would be written over another of the command; 3 for another fault. At 0 and 1 the output comes with it, which
-/// has grown by exactly what was asked for.
-pub fn status_of<F: Folder, I: Read + Drop, O: Write + Drop, E: Write>(
+/// has grown by exactly what was asked for. Unless a call of `errors` failed, that has grown by exactly what is told.
+pub fn status_of<F: Folder, I: Read + Drop, O: Write + Drop, E: Sink>(
     alloc: Global,
     folder: &mut F,
     input: I,
@@ -359,16 +393,25 @@ pub fn status_of<F: Folder, I: Read + Drop, O: Write + Drop, E: Write>(
     errors: &mut E,
     words: &[&str],
 ) -> Answer<O>
+    requires { E.failed errors.old < 2 ^ 64 - 1 }
     ensures version { asks_version (map (λ word. word.now) words.entry.now) ≡ true
-        → ((result.status ≡ 0) × (out : O) × (result.output ≡ Some out) × Appends (O.contents output) (O.contents out) version_line)
+        → ((result.status ≡ 0) × (out : O) × (result.output ≡ Some out) × Appends (O.contents output) (O.contents out) version_line
+        × Tells (E.failed errors.old) (E.failed errors.new) (E.held errors.old) (E.held errors.new) [])
         ⊎ (result.status ≡ 3) }
     // At 0 and 1 a plan that the words are was carried out wholly.
     ensures done { asks_version (map (λ word. word.now) words.entry.now) ≡ false → result.status ≤ 1
-        → (out : O) × (result.output ≡ Some out) × IsCarriedOut (map (λ word. word.now) words.entry.now) (F.same folder.old)
-        (I.remaining input) (changed (O.contents output) (O.contents out) (F.files folder.old) (F.files folder.new)) result.status }
+        → (out : O) × (told : List ℕ) × (result.output ≡ Some out)
+        × IsCarriedOut (map (λ word. word.now) words.entry.now) (F.same folder.old) (I.remaining input)
+        (changed (O.contents output) (O.contents out) (F.files folder.old) (F.files folder.new)) told result.status
+        × Tells (E.failed errors.old) (E.failed errors.new) (E.held errors.old) (E.held errors.new) told }
     // At 2 clap doesn't take the words, or finds no sound plan in them, or a file would be written over another of the command.
     ensures refused { result.status ≡ 2 → IsRefused (map (λ word. word.now) words.entry.now)
-        ⊎ IsSpared (map (λ word. word.now) words.entry.now) (F.same folder.old) (F.files folder.old) (F.files folder.new) }
+        ⊎ (IsSpared (map (λ word. word.now) words.entry.now) (F.same folder.old) (F.files folder.old) (F.files folder.new)
+        × Tells (E.failed errors.old) (E.failed errors.new) (E.held errors.old) (E.held errors.new) same_file) }
+    // At 3 the version or the help can't be written, there is no memory for the words, or their plan fails.
+    ensures fault { result.status ≡ 3 → (fault : ProgramFault) × (quiet : Bool)
+        × FailsToCarry (map (λ word. word.now) words.entry.now) (F.same folder.old) (F.files folder.old) (F.files folder.new) quiet fault
+        × Tells (E.failed errors.old) (E.failed errors.new) (E.held errors.old) (E.held errors.new) (fault_text quiet fault) }
     ensures most { result.status ≤ 3 }
 {
     if asks_version(words) {

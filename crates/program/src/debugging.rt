@@ -1,14 +1,15 @@
 //! The command `debug`.
 
-ghost use Rattle.std.specs.Prelude.{◌≡◌, ◌≤◌, IfOk, IfSome, is_some};
+ghost use Rattle.std.specs.Prelude.{◌≡◌, ◌≤◌, IfErr, IfOk, IfSome, IsSomeAnd, is_some};
 ghost use Rattle.std.specs.Io.KnownBytes.{Appends};
 ghost use Rattle.debugger.specs.Conversation.{conversation};
 ghost use Rattle.debugger.specs.SessionState.{session_of_image};
 ghost use Rattle.debugger.specs.Talk.{heard};
-ghost use Rattle.program.specs.Debugging.{AreKeys, DebugsFile, schedule_asked};
+ghost use Rattle.commands.specs.Files.{IsTextFault};
+ghost use Rattle.program.specs.Debugging.{AreKeys, DebugsFile, FailsToDebug, IsTalkFault, schedule_asked};
 
 use commands::{
-    Folder, Program, ProgramFault, ProgramMachine, Writing, read_program, read_text, told_with,
+    Folder, LoadedProgram, ProgramFault, ProgramMachine, Writing, load_program, read_text,
 };
 use debugger::{Session, TalkFault, talk};
 use image::{DeviceFailed, FromRead, Image};
@@ -31,7 +32,8 @@ fn keys_of<'a, F: Folder>(
     folder: &F,
     keys: Option<&'a str>,
 ) -> Result<Vec<u8>, ProgramFault<'a>>
-    ensures { IfOk result (λ read. AreKeys keys.entry (F.files folder.now) read.items) }
+    ensures ok { IfOk result (λ read. AreKeys keys.entry (F.files folder.now) read.items) }
+    ensures err { IfErr result (λ fault. IsSomeAnd keys.entry (λ keys. IsTextFault keys.now (F.files folder.now) fault)) }
 {
     match keys {
         Some(name) => read_text(alloc, folder, name),
@@ -55,7 +57,9 @@ fn schedule_asked(is_typed: bool, gap: Option<u64>, tick: Option<u64>) -> Option
 }
 
 /// The fault of a conversation that was cut short.
-fn cut_short<'a>(fault: TalkFault) -> ProgramFault<'a> {
+fn cut_short<'a>(fault: TalkFault) -> ProgramFault<'a>
+    ensures { IsTalkFault result }
+{
     match fault {
         TalkFault::Read => ProgramFault::Input,
         TalkFault::Write => ProgramFault::Write(DeviceFailed),
@@ -69,8 +73,9 @@ fn talk_with<'a, I: Read + Drop, O: Write + Drop>(
     input: I,
     output: O,
 ) -> Result<O, ProgramFault<'a>>
-    ensures { IfOk result (λ out. IfSome (I.remaining input) (λ typed. Appends (O.contents output) (O.contents out)
+    ensures ok { IfOk result (λ out. IfSome (I.remaining input) (λ typed. Appends (O.contents output) (O.contents out)
         (conversation (heard typed) session.old))) }
+    ensures err { IfErr result IsTalkFault }
 {
     let mut source = FromRead::new(input);
     let mut sink = Writing::new(output);
@@ -91,8 +96,9 @@ fn debug_image<'a, I: Read + Drop, O: Write + Drop>(
     output: O,
 ) -> Result<O, ProgramFault<'a>>
     requires { IfSome schedule (λ schedule. 1 ≤ schedule.gap) }
-    ensures { IfOk result (λ out. IfSome (I.remaining input) (λ typed. Appends (O.contents output) (O.contents out)
+    ensures ok { IfOk result (λ out. IfSome (I.remaining input) (λ typed. Appends (O.contents output) (O.contents out)
         (conversation (heard typed) (session_of_image image table schedule keys.items)))) }
+    ensures err { IfErr result IsTalkFault }
 {
     let machine: ProgramMachine = Machine::new(alloc, &image)?;
     let mut session = Session::with_past(alloc, machine, image, table, schedule, keys);
@@ -118,15 +124,12 @@ pub fn debug_file<'a, F: Folder, I: Read + Drop, O: Write + Drop>(
     output: O,
 ) -> Result<O, ProgramFault<'a>>
     requires { IfSome gap (λ gap. 1 ≤ gap) }
-    ensures { IfOk result (λ out. DebugsFile (F.files folder.now) name.entry.now symbols.entry lines.entry keys.entry gap tick
+    ensures ok { IfOk result (λ out. DebugsFile (F.files folder.now) name.entry.now symbols.entry lines.entry keys.entry gap tick
         (I.remaining input) (O.contents output) (O.contents out)) }
+    ensures err { IfErr result (FailsToDebug (F.files folder.now) name.entry.now symbols.entry lines.entry keys.entry) }
 {
-    let Program {
-        image,
-        labels,
-        own_lines,
-    } = read_program(alloc, folder, name, symbols)?;
-    let table = told_with(alloc, folder, name, lines, labels, &own_lines)?;
+    let program = load_program(alloc, folder, name, symbols, lines)?;
+    let LoadedProgram { image, table } = program;
     let schedule = schedule_asked(keys.is_some(), gap, tick);
     let typed = keys_of(alloc, folder, keys)?;
     debug_image(alloc, image, table, schedule, typed, input, output)

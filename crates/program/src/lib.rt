@@ -5,4 +5,5 @@ mod carrying;
 mod debugging;
 
 pub use carrying::{Answer, FAULT, refuse, status_of, tell_fault};
-pub use commands::{Folder, ProgramFault};
+pub use commands::{Folder, ProgramFault, Writing};
+pub use image::Sink;

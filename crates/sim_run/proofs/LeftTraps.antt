@@ -1,9 +1,9 @@
--- The trap that is left after events, one after the other, and where PCC then is.
+-- The traps that are left after events, one after the other, and where PCC then is.
 use Rattle.std.proofs.Common.{◌≡◌, ℕ, zero, suc, replicate, ◌+◌, ◌*◌, ◌/◌, ◌%◌, ◌^◌, ◌≤◌, ◌<◌, Bool, true, false, List, [], ◌∷◌, ◌++◌}
 use Rattle.std.proofs.Common.{Option, Some, None}
 use Rattle.std.proofs.Common.{◌⊎◌, inl, inr, refl, sym, ap, ◌∙◌, subst, arith}
 use Rattle.std.proofs.lemmas.Bool.{cond_both, eqb-true}
-use Rattle.std.specs.Prelude.{◌==◌, is_some, if◌then◌else◌, codes, decimal}
+use Rattle.std.specs.Prelude.{◌==◌, ◌-◌, is_some, if◌then◌else◌, codes, decimal, string_bytes, IfSome}
 use Rattle.base.specs.declared.fault.Fault.{Fault}
 use Rattle.cap_bounds.specs.AddressLaws.{value_address-at_address}
 use Rattle.cap_bounds.specs.CapValue.{CapValue, value_address, is_tagged}
@@ -25,9 +25,14 @@ use Rattle.explain.specs.WhyText.{failed_line}
 use Rattle.steps.specs.Steps.{GoesBy}
 use Rattle.schedules.specs.Schedule.{is_halted, steps_in}
 use Rattle.symbols.specs.Symbols.{Symbol}
-use Rattle.sim_run.specs.Ending.{first_trap, trap_part}
-use Rattle.sim_run.specs.Unhandled.{Trapped, first_of, after_step, unfetched_in, unhandled, trap_left}
-use Rattle.sim_run.specs.Watched.{trap_in, IsTold}
+use Rattle.sim_run.specs.Ending.{last_trap, later_trap, trap_lines, trap_part, trap_words}
+use Rattle.sim_run.specs.declared.notes.First.{First}
+use Rattle.sim_run.specs.declared.notes.Last.{Last}
+use Rattle.sim_run.specs.declared.notes.Level.{Level}
+use Rattle.sim_run.specs.declared.notes.Notes.{Notes}
+use Rattle.sim_run.specs.Unhandled.{Open, Trapped, Traps, after_step, gone_on, last_of, level_left, no_traps, opened, trap_left}
+use Rattle.sim_run.specs.Unhandled.{traps_after, unfetched_in}
+use Rattle.sim_run.specs.Watched.{lines_of, trap_in, IsLast, IsOpen, IsTold}
 
 -- ---- plain steps
 
@@ -37,18 +42,20 @@ no_steps some = absurd (no some)
     no : 1 ≤ 0 → ⊥
     no some = omega (arith, some)
 
-not_trapped : (stop : Option ℕ) (number : ℕ) (s : State) (found : Option Trapped) → GoesBy stop s → after_step number s found ≡ None
-not_trapped stop number s found goes =
+not_trapped : (stop : Option ℕ) (number : ℕ) (s : State) (left : Traps) → left.first ≡ None → GoesBy stop s
+    → after_step number s left ≡ no_traps
+not_trapped stop number s left none goes =
     let plain : is_trap (outcome Step s) ≡ false = ap is_trap goes.plain in
-    rw plain refl
+    rw (plain, none) refl
 
--- they handle every trap
-pub all_handled : (stop : Option ℕ) (n k : ℕ) (s : State) (found : Option Trapped) → 1 ≤ k
-    → ((j : ℕ) → j < k → GoesBy stop (run_after (replicate j Step) s)) → None ≡ unhandled n found (replicate k Step) s
-all_handled stop n zero s found some goes = no_steps some
-all_handled stop n (suc zero) s found some goes = sym (not_trapped stop (n + 1) s found (goes 0 (omega arith)))
-all_handled stop n (suc (suc k)) s found some goes =
-    all_handled stop (n + 1) (suc k) (after Step s) (after_step (n + 1) s found) (omega arith)
+-- they leave none, where none is open
+pub all_handled : (stop : Option ℕ) (n k : ℕ) (s : State) (left : Traps) → left.first ≡ None → 1 ≤ k
+    → ((j : ℕ) → j < k → GoesBy stop (run_after (replicate j Step) s)) → no_traps ≡ traps_after n left (replicate k Step) s
+all_handled stop n zero s left none some goes = no_steps some
+all_handled stop n (suc zero) s left none some goes = sym (not_trapped stop (n + 1) s left none (goes 0 (omega arith)))
+all_handled stop n (suc (suc k)) s left none some goes =
+    let next = not_trapped stop (n + 1) s left none (goes 0 (omega arith)) in
+    all_handled stop (n + 1) (suc k) (after Step s) (after_step (n + 1) s left) (ap (λ (t : Traps). t.first) next) (omega arith)
     (λ j below. goes (suc j) (omega (arith, below)))
 
 pub steps_in-steps : (n : ℕ) → steps_in (replicate n Step) ≡ n
@@ -107,41 +114,97 @@ module _ (s : State) (running : is_halted s ≡ false) where
 
   -- the trap that is taken, as it is told
   pub told-trap : (symbols : List Symbol) (f : Fault) (number : ℕ) → step_effect s ≡ effect.Trap f
-      → codes "; first trap: " ++ trap_part symbols f.mcause f.mtval (pc_of s) ++ codes ", step " ++ decimal number ++ codes "\n"
-      ++ failed_line symbols s
-      ≡ first_trap symbols number s
-  unfolding first_trap
+      → trap_part symbols f.mcause f.mtval (pc_of s) ++ codes ", step " ++ decimal number ++ codes "\n" ++ failed_line symbols s
+      ≡ trap_words symbols number s
+  unfolding trap_words
   told-trap symbols f number is =
-      ap (λ c. codes "; first trap: " ++ trap_part symbols c f.mtval (pc_of s) ++ codes ", step " ++ decimal number ++ codes "\n"
+      ap (λ c. trap_part symbols c f.mtval (pc_of s) ++ codes ", step " ++ decimal number ++ codes "\n"
       ++ failed_line symbols s) (sym (cause-left f is))
-      ∙ ap (λ v. codes "; first trap: " ++ trap_part symbols (after Step s).csrs.mcause v (pc_of s) ++ codes ", step " ++ decimal number
+      ∙ ap (λ v. trap_part symbols (after Step s).csrs.mcause v (pc_of s) ++ codes ", step " ++ decimal number
       ++ codes "\n" ++ failed_line symbols s) (sym (value-left f is))
 
-  pub trap-taken : (number : ℕ) (found : Option Trapped) (f : Fault) → trap_in (step_effect s) ≡ Some f
-      → Some (first_of number s found) ≡ after_step number s found
-  trap-taken number found f is = rw (traps, is) refl
+  pub trap-taken : (number : ℕ) (left : Traps) (f : Fault) → trap_in (step_effect s) ≡ Some f
+      → after_step number s left ≡ record { first = Some (opened number s left.first); last = Some (last_of number s left.last) }
+  trap-taken number left f is = rw (traps, is) refl
 
-  pub none-taken : (number : ℕ) (found : Option Trapped) → trap_in (step_effect s) ≡ None → None ≡ after_step number s found
-  none-taken number found is = rw (traps, is) refl
+  pub none-taken : (number : ℕ) (left : Traps) → trap_in (step_effect s) ≡ None
+      → after_step number s left ≡ record { first = gone_on s left.first; last = None }
+  none-taken number left is = rw (traps, is) refl
 
--- ---- the trap that is left, as it is told
+-- ---- how many they are
 
-pub told-more : (symbols : List Symbol) (n : ℕ) (text : List ℕ) (number : ℕ) (s : State) (found : Option Trapped)
-    → IsTold symbols (Some n) text found → (m : ℕ) → m ≡ n + unfetched_in (step_fetched s)
-    → IsTold symbols (Some m) text (Some (first_of number s found))
-told-more symbols n text number s None told m is = absurd told
-told-more symbols n text number s (Some first) told m is = (is ∙ ap (λ k. k + unfetched_in (step_fetched s)) told.0, told.1)
+pub few-before : {A : Type 0} (count : A → ℕ) (number : ℕ) (one : Option A) → 0 < number → IfSome one (λ a. count a ≤ number - 1)
+    → IfSome one (λ a. count a < number)
+few-before count number None some few = tt
+few-before count number (Some a) some few = omega (arith, some, few)
 
-pub told-first : (symbols : List Symbol) (number : ℕ) (s : State) (found : Option Trapped) (old new : List ℕ)
-    → IsTold symbols None old found → new ≡ first_trap symbols number s → IsTold symbols (Some 0) new (Some (first_of number s found))
-told-first symbols number s None old new told is = (refl, is)
-told-first symbols number s (Some first) old new told is = absurd told
+pub few-still : {A : Type 0} (count : A → ℕ) (number : ℕ) (one : Option A) → IfSome one (λ a. count a ≤ number - 1)
+    → IfSome one (λ a. count a ≤ number)
+few-still count number None few = tt
+few-still count number (Some a) few = omega (arith, few)
 
-pub told-none : (symbols : List Symbol) (unfetched : Option ℕ) (text : List ℕ) (found : Option Trapped) → unfetched ≡ None
-    → IsTold symbols unfetched text found → found ≡ None
-told-none symbols None text None is told = refl
-told-none symbols None text (Some first) is told = absurd told
-told-none symbols (Some n) text found is told = cc
+-- ---- the traps that are left, as they are told
+
+pub open-first : (symbols : List Symbol) (number : ℕ) (s : State) (level : Option Level) (found : Option Open) (old new : List ℕ)
+    → IsOpen symbols None old found → level ≡ level_left s → new ≡ trap_words symbols number s
+    → IsOpen symbols (Some (record { number = number; inner = 0; level = level })) new (Some (opened number s found))
+open-first symbols number s level None old new told same is = (refl, refl, same, is)
+open-first symbols number s level (Some one) old new told same is = absurd told
+
+pub open-more : (symbols : List Symbol) (number : ℕ) (s : State) (one : First) (found : Option Open) (words : List ℕ)
+    → IsOpen symbols (Some one) words found
+    → IsOpen symbols (Some (record { number = one.number; inner = one.inner + 1; level = one.level })) words
+    (Some (opened number s found))
+open-more symbols number s one None words told = absurd told
+open-more symbols number s one (Some first) words told = (told.0, ap (λ n. n + 1) told.1, told.2, told.3)
+
+pub last-first : (symbols : List Symbol) (number : ℕ) (s : State) (found : Option Trapped) (old new : List ℕ)
+    → IsLast symbols None old found → new ≡ trap_words symbols number s
+    → IsLast symbols (Some (record { number = number; unfetched = 0 })) new (Some (last_of number s found))
+last-first symbols number s None old new told is = (refl, refl, is)
+last-first symbols number s (Some one) old new told is = absurd told
+
+pub last-more : (symbols : List Symbol) (number : ℕ) (s : State) (one : Last) (found : Option Trapped) (words : List ℕ) (m : ℕ)
+    → IsLast symbols (Some one) words found → m ≡ one.unfetched + unfetched_in (step_fetched s)
+    → IsLast symbols (Some (record { number = one.number; unfetched = m })) words (Some (last_of number s found))
+last-more symbols number s one None words m told is = absurd told
+last-more symbols number s one (Some last) words m told is =
+    (told.0, is ∙ ap (λ k. k + unfetched_in (step_fetched s)) told.1, told.2)
+
+-- ---- where none is open, and lines
+
+pub open-none : (symbols : List Symbol) (words : List ℕ) (found : Option Open) → IsOpen symbols None words found → found ≡ None
+open-none symbols words None told = refl
+open-none symbols words (Some one) told = absurd told
+
+pub last-none : (symbols : List Symbol) (words : List ℕ) (found : Option Trapped) → IsLast symbols None words found → found ≡ None
+last-none symbols words None told = refl
+last-none symbols words (Some one) told = absurd told
+
+-- after plain steps where none is open
+pub passed-told : (symbols : List Symbol) (notes : Notes) (n k : ℕ) (s : State) (left : Traps) → notes.first ≡ None → 1 ≤ k
+    → ((j : ℕ) → j < k → GoesBy None (run_after (replicate j Step) s)) → IsTold symbols notes left
+    → IsTold symbols (record notes { last = None }) (traps_after n left (replicate k Step) s)
+passed-told symbols notes n k s left none some goes told =
+    let first : left.first ≡ None = open-none symbols (string_bytes notes.first_words) left.first
+    (subst (λ f. IsOpen symbols f (string_bytes notes.first_words) left.first) none told.0) in
+    subst (IsTold symbols (record notes { last = None })) (all_handled None n k s left first some goes) (rw none tt, tt)
+
+-- the words of both
+pub both-lines : (symbols : List Symbol) (first : First) (last : Last) (words later : List ℕ) (f : Option Open) (l : Option Trapped)
+    (s : State) → IsOpen symbols (Some first) words f → IsLast symbols (Some last) later l
+    → trap_lines symbols f l s ≡ lines_of first words last later
+unfolding later_trap
+both-lines symbols first last words later None l s one two = absurd one
+both-lines symbols first last words later (Some f) None s one two = absurd two
+both-lines symbols first last words later (Some f) (Some l) s one two = rw (one.3, two.2, one.0, two.0, two.1) refl
+
+-- after a last step that was no trap
+pub none-lines : (symbols : List Symbol) (first : Option Open) (last : Option Trapped) (s : State) → last ≡ None
+    → trap_lines symbols first last s ≡ last_trap symbols s ++ codes "\n"
+none-lines symbols None last s none = refl
+none-lines symbols (Some first) None s none = refl
+none-lines symbols (Some first) (Some last) s none = cc
 
 -- ---- where PCC is after a trap
 
@@ -178,34 +241,41 @@ trapped-at_entry s is =
     let found = some-fault (step_effect s) (sym (traps s running) ∙ is) in
     subst IsAtEntry (sym (after-trap s running found.0 found.1)) (at-entry-after found.0 s)
 
-some-taken : (number : ℕ) (s : State) (found : Option Trapped) → is_some (after_step number s found) ≡ true
+some-taken : (number : ℕ) (s : State) (left : Traps) → is_some (after_step number s left).last ≡ true
     → is_trap (outcome Step s) ≡ true
-some-taken number s found some = go (is_trap (outcome Step s)) some
+some-taken number s left some = go (is_trap (outcome Step s)) some
   where
-    go : (b : Bool) → is_some (if b then Some (first_of number s found) else None) ≡ true → b ≡ true
+    trapped : Traps
+    trapped = record { first = Some (opened number s left.first); last = Some (last_of number s left.last) }
+
+    gone : Traps
+    gone = record { first = gone_on s left.first; last = None }
+
+    go : (b : Bool) → is_some (if b then trapped else gone).last ≡ true → b ≡ true
     go true e = refl
     go false e = cc
 
-at-entry : (n : ℕ) (found : Option Trapped) (events : List Event) (s : State) → (is_some found ≡ true → IsAtEntry s)
-    → is_some (unhandled n found events s) ≡ true → IsAtEntry (run_after events s)
-at-entry n found [] s before some = before some
-at-entry n found (Step ∷ es) s before some =
-    at-entry (n + 1) (after_step (n + 1) s found) es (after Step s) (λ left. trapped-at_entry s (some-taken (n + 1) s found left)) some
-at-entry n found (Tick ∷ es) s before some = at-entry n found es (after Tick s) before some
-at-entry n found (Byte b ∷ es) s before some = at-entry n found es (after (Byte b) s) before some
+at-entry : (n : ℕ) (left : Traps) (events : List Event) (s : State) → (is_some left.last ≡ true → IsAtEntry s)
+    → is_some (traps_after n left events s).last ≡ true → IsAtEntry (run_after events s)
+at-entry n left [] s before some = before some
+at-entry n left (Step ∷ es) s before some =
+    at-entry (n + 1) (after_step (n + 1) s left) es (after Step s) (λ there. trapped-at_entry s (some-taken (n + 1) s left there)) some
+at-entry n left (Tick ∷ es) s before some = at-entry n left es (after Tick s) before some
+at-entry n left (Byte b ∷ es) s before some = at-entry n left es (after (Byte b) s) before some
 
 pub none-some : false ≡ true → ⊥
 none-some e = cc
 
--- where PCC is at no entry, nothing is left
-pub none-left : (t : State) → (IsAtEntry t → ⊥) → (events : List Event) (s : State) → t ≡ run_after events s → trap_left events s ≡ None
-none-left t elsewhere events s there = go (trap_left events s) refl
+-- where PCC is at no entry, the last step was no trap
+pub none-left : (t : State) → (IsAtEntry t → ⊥) → (events : List Event) (s : State) → t ≡ run_after events s
+    → (trap_left events s).last ≡ None
+none-left t elsewhere events s there = go (trap_left events s).last refl
   where
-    go : (left : Option Trapped) → trap_left events s ≡ left → left ≡ None
+    go : (last : Option Trapped) → (trap_left events s).last ≡ last → last ≡ None
     go None is = refl
-    go (Some first) is =
+    go (Some one) is =
         absurd (elsewhere (subst IsAtEntry (sym there)
-        (at-entry 0 None events s (λ some. absurd (none-some some)) (ap is_some is))))
+        (at-entry 0 no_traps events s (λ some. absurd (none-some some)) (ap is_some is))))
 
 -- the two addresses at which a trap may begin
 pub two-entries : (f : Fault) (mtvec : ℕ) → mtvec < 2 ^ 64

@@ -2,7 +2,7 @@
 use Rattle.std.proofs.Common.{◌≡◌, ℕ, ◌+◌, ◌-◌, ◌<◌, ◌≤◌, ◌^◌, Bool, true, false, List, [], ◌∷◌, append-nil, refl, arith}
 use Rattle.std.proofs.lemmas.Bool.{eqb-false, ltb-true}
 use Rattle.std.proofs.Math.Nat.{max-eq_left}
-use Rattle.std.specs.Prelude.{◌==◌, ⊤, nat_lt, max, None, if◌then◌else◌, Result, Ok, Err, OnOk, OnErr, IfErr}
+use Rattle.std.specs.Prelude.{◌==◌, ⊤, nat_lt, max, Option, Some, None, if◌then◌else◌, Result, Ok, Err, OnOk, OnErr, IfErr}
 use Rattle.image.specs.Devices.{Counts}
 use Rattle.steps.specs.State.{State}
 use Rattle.steps.specs.declared.event.Event.TheVariants.{Step}
@@ -13,7 +13,8 @@ use Rattle.schedules.specs.declared.pace.Speed.TheVariants.{Any, Each, Short}
 use Rattle.schedules.specs.Pace.{GoBy, most_of}
 use Rattle.sim_run.specs.Lines.{lines_pace}
 use Rattle.sim_run.specs.Trace.{lines_past}
-use Rattle.sim_run.specs.Watched.{counted_pace}
+use Rattle.sim_run.specs.declared.notes.First.{First}
+use Rattle.sim_run.specs.Watched.{counted_pace, watching_pace}
 
 one_at_least : (n : ℕ) → 1 ≤ n → max n 1 ≡ n
 one_at_least n some = max-eq_left some
@@ -57,6 +58,14 @@ module _ (n : ℕ) where
   pub few_counted : (m : ℕ) (s : State) → m ≤ most_of (counted_pace n) → GoBy (counted_pace n).speed m s
       → (n + m ≤ 18446744073709551615) × GoBy (Short None) m s
   few_counted m s = few_counted_of m s (nat_lt n 18446744073709551615) refl
+
+-- of those where no trap is open
+pub few_watched : (first : Option First) (n m : ℕ) (s : State) → m ≤ most_of (watching_pace first n)
+    → GoBy (watching_pace first n).speed m s → (first ≡ None) × (n + m ≤ 18446744073709551615) × GoBy (Short None) m s
+few_watched None n m s few goes =
+    let known = few_counted n m s few goes in
+    (refl, known.0, known.1)
+few_watched (Some one) n m s few goes = absurd goes
 
 -- a number of 64 bits that is not the greatest
 pub not_last : (n : ℕ) → n < 2 ^ 64 → (n == 18446744073709551615) ≡ false → n < 2 ^ 64 - 1

@@ -1,6 +1,7 @@
 -- Where a run ended, for whoever called the program: `cherisim: steps 10000, pcc 0000000080000010 <loop+4>`, and after it the trap that
--- nothing handled, or else the last that was taken. After an address stands its label, where there is a table of symbols.
-use Rattle.std.specs.Prelude.{ℕ, Bool, not, ◌==◌, ◌&&◌, List, [], ◌++◌, Option, Some, None, codes, decimal, if◌then◌else◌}
+-- nothing handled, with the last where that is another; or else the last that was taken. After an address stands its label, where there is
+-- a table of symbols.
+use Rattle.std.specs.Prelude.{ℕ, Bool, not, ◌==◌, ◌&&◌, List, [], ◌++◌, Option, Some, codes, decimal, if◌then◌else◌}
 use Rattle.cap_bounds.specs.CapValue.{value_address}
 use Rattle.steps.specs.declared.event.Event.TheVariants.{Step}
 use Rattle.steps.specs.Event.{after}
@@ -11,7 +12,7 @@ use Rattle.symbols.specs.Sources.{source_of}
 use Rattle.explain.specs.StandingText.{standing_text}
 use Rattle.explain.specs.TrapText.{trap_text}
 use Rattle.explain.specs.WhyText.{failed_line}
-use Rattle.sim_run.specs.Unhandled.{Trapped}
+use Rattle.sim_run.specs.Unhandled.{Open, Trapped, Traps}
 
 -- A trap was taken where mcause and mtval aren't both 0: the one trap whose cause is 0, a misaligned jump, leaves its target in mtval.
 abbrev pub is_trapped : ℕ → ℕ → Bool
@@ -28,21 +29,28 @@ last_trap symbols s =
     else []
 
 -- the trap of the next step, as it is left in mcause and mtval, with the step's number; and on a line of its own the condition that fails
-unfoldable pub first_trap : List Symbol → ℕ → State → List ℕ
-first_trap symbols number s =
-    codes "; first trap: " ++ trap_part symbols (after Step s).csrs.mcause (after Step s).csrs.mtval (pc_of s) ++ codes ", step "
-    ++ decimal number ++ codes "\n" ++ failed_line symbols s
+unfoldable pub trap_words : List Symbol → ℕ → State → List ℕ
+trap_words symbols number s =
+    trap_part symbols (after Step s).csrs.mcause (after Step s).csrs.mtval (pc_of s) ++ codes ", step " ++ decimal number ++ codes "\n"
+    ++ failed_line symbols s
 
--- how many steps since the first trap were traps of the fetch
+-- the last, where it isn't the first that is open
+unfoldable pub later_trap : List Symbol → ℕ → Trapped → List ℕ
+later_trap symbols first last =
+    if first == last.number then [] else codes "  last trap: " ++ trap_words symbols last.number last.before
+
+-- how many steps since the last were traps of the fetch
 unfoldable pub since_line : ℕ → List ℕ
 since_line n = if n == 0 then [] else codes "  later traps at an entry that can't be fetched: " ++ decimal n ++ codes "\n"
 
--- the trap that nothing handled; else the last
-abbrev pub trap_lines : List Symbol → Option Trapped → State → List ℕ
-trap_lines symbols (Some first) s = first_trap symbols first.number first.before ++ since_line first.unfetched
-trap_lines symbols None s = last_trap symbols s ++ codes "\n"
+-- after a last step that was a trap, the first that is open; else the last, where one was taken
+abbrev pub trap_lines : List Symbol → Option Open → Option Trapped → State → List ℕ
+trap_lines symbols (Some first) (Some last) s =
+    codes "; first trap: " ++ trap_words symbols first.number first.before ++ later_trap symbols first.number last
+    ++ since_line last.unfetched
+trap_lines symbols first last s = last_trap symbols s ++ codes "\n"
 
 -- how many steps were done, where PCC is, and the trap that matters
-abbrev pub ending_lines : List Symbol → ℕ → Option Trapped → State → List ℕ
-ending_lines symbols steps found s =
-    standing_text symbols steps s ++ trap_lines symbols found s
+abbrev pub ending_lines : List Symbol → ℕ → Traps → State → List ℕ
+ending_lines symbols steps left s =
+    standing_text symbols steps s ++ trap_lines symbols left.first left.last s

@@ -1,5 +1,7 @@
--- What a watch remembers of the trap that is left. No definition of a run needs this.
-use Rattle.std.specs.Prelude.{◌≡◌, ℕ, ◌+◌, ◌-◌, nat_lt, if◌then◌else◌, List, Option, Some, None, ⊤}
+-- What a watch remembers of the traps of a run. No definition of a run needs this.
+use Rattle.std.specs.Prelude.{◌≡◌, ℕ, ◌+◌, ◌-◌, ◌==◌, ◌≤◌, nat_lt, if◌then◌else◌, List, [], ◌++◌, Option, Some, None, ⊤}
+use Rattle.std.specs.Prelude.{codes, string_bytes, IfSome, MatchOption}
+use Rattle.std.specs.declared.string.String.{String}
 use Rattle.base.specs.declared.fault.Fault.{Fault}
 use Rattle.cap_bounds.specs.CapValue.{CapValue}
 use Rattle.steps.specs.declared.effect.Effect.{Effect}
@@ -10,20 +12,54 @@ use Rattle.steps.specs.State.{State}
 use Rattle.schedules.specs.Schedule.{steps_in}
 use Rattle.schedules.specs.declared.pace.Pace.{Pace}
 use Rattle.schedules.specs.declared.pace.Speed.TheVariants.{Each, Short}
-use Rattle.sim_run.specs.Unhandled.{Trapped, unhandled}
-use Rattle.sim_run.specs.Ending.{first_trap}
+use Rattle.sim_run.specs.declared.notes.First.{First}
+use Rattle.sim_run.specs.declared.notes.Last.{Last}
+use Rattle.sim_run.specs.declared.notes.Notes.{Notes}
+use Rattle.sim_run.specs.Unhandled.{Open, Trapped, Traps, level_left, traps_after}
+use Rattle.sim_run.specs.Ending.{last_trap, since_line, trap_lines, trap_words}
 
 -- the fault of an effect that is a trap
 abbrev pub trap_in : Effect CapValue → Option Fault
 trap_in (Trap fault) = Some fault
 trap_in _ = None
 
--- the trap that is left, as how many steps since it were traps of the fetch, with its lines
-abbrev pub IsTold : List Symbol → Option ℕ → List ℕ → Option Trapped → Type 0
-IsTold symbols None text None = ⊤
-IsTold symbols None text (Some first) = ⊥
-IsTold symbols (Some n) text None = ⊥
-IsTold symbols (Some n) text (Some first) = (n ≡ first.unfetched) × (text ≡ first_trap symbols first.number first.before)
+-- the first trap that is open, with its words
+abbrev pub IsOpen : List Symbol → Option First → List ℕ → Option Open → Type 0
+IsOpen symbols None words None = ⊤
+IsOpen symbols None words (Some open_trap) = ⊥
+IsOpen symbols (Some first) words None = ⊥
+IsOpen symbols (Some first) words (Some open_trap) =
+    (first.number ≡ open_trap.number) × (first.inner ≡ open_trap.inner) × (first.level ≡ level_left open_trap.before)
+    × (words ≡ trap_words symbols open_trap.number open_trap.before)
+
+-- the last, where the last step was one, with its words
+abbrev pub IsLast : List Symbol → Option Last → List ℕ → Option Trapped → Type 0
+IsLast symbols None words None = ⊤
+IsLast symbols None words (Some trapped) = ⊥
+IsLast symbols (Some last) words None = ⊥
+IsLast symbols (Some last) words (Some trapped) =
+    (last.number ≡ trapped.number) × (last.unfetched ≡ trapped.unfetched) × (words ≡ trap_words symbols trapped.number trapped.before)
+
+abbrev pub IsTold : List Symbol → Notes → Traps → Type 0
+IsTold symbols notes left =
+    IsOpen symbols notes.first (string_bytes notes.first_words) left.first
+    × IsLast symbols notes.last (string_bytes notes.last_words) left.last
+
+-- the lines of both, of their words
+abbrev pub lines_of : First → List ℕ → Last → List ℕ → List ℕ
+lines_of first words last later =
+    codes "; first trap: " ++ words ++ (if first.number == last.number then [] else codes "  last trap: " ++ later)
+    ++ since_line last.unfetched
+
+-- the lines of a run that ended in this state, where its last step was a trap
+abbrev pub HasLines : {Z : Type 0} → List Symbol → Option (String Z) → Traps → State → Type 0
+HasLines symbols lines left s =
+    MatchOption lines (trap_lines symbols left.first left.last s ≡ last_trap symbols s ++ codes "\n")
+    (λ text. trap_lines symbols left.first left.last s ≡ string_bytes text)
+
+-- no trap has more of them than there were steps
+abbrev pub AreFew : ℕ → Notes → Type 0
+AreFew number notes = IfSome notes.first (λ first. first.inner ≤ number) × IfSome notes.last (λ last. last.unfetched ≤ number)
 
 -- after so many steps, at once over plain ones
 abbrev pub counted_pace : ℕ → Pace
@@ -31,11 +67,15 @@ counted_pace number =
     if nat_lt number 18446744073709551615 then record { speed = Short None; most = 18446744073709551615 - number }
     else record { speed = Each; most = 18446744073709551615 }
 
+-- where a trap is open, step by step: a return is plain
+abbrev pub watching_pace : Option First → ℕ → Pace
+watching_pace None number = counted_pace number
+watching_pace (Some first) number = record { speed = Each; most = 18446744073709551615 }
+
 -- the steps among the events were counted
 abbrev pub Counted : ℕ → ℕ → List Event → Type 0
 Counted before now events = now ≡ before + steps_in events
 
--- what was told of the trap that was left before the events tells of the one that is left after them
-abbrev pub Tells : List Symbol → ℕ → Option ℕ → List ℕ → Option ℕ → List ℕ → List Event → State → Type 0
-Tells symbols before unfetched text now_unfetched now_text events s =
-    (found : Option Trapped) → IsTold symbols unfetched text found → IsTold symbols now_unfetched now_text (unhandled before found events s)
+-- what was told of the traps that were left before the events tells of those that are left after them
+abbrev pub Tells : (Traps → Type 0) → (Traps → Type 0) → ℕ → List Event → State → Type 0
+Tells Before Now number events s = (left : Traps) → Before left → Now (traps_after number left events s)

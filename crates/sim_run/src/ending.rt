@@ -1,18 +1,17 @@
 //! How a run ended, for whoever called the program.
 
-ghost use Rattle.std.specs.Prelude.{◌≡◌, ◌++◌, OnOk, IfOk, Option, codes, decimal, false, string_bytes};
+ghost use Rattle.std.specs.Prelude.{◌≡◌, ◌++◌, OnOk, IfOk, codes, decimal, false, string_bytes};
 ghost use Rattle.cap_bounds.specs.CapValue.{value_address};
 ghost use Rattle.steps.specs.State.{pc_of};
 ghost use Rattle.steps.specs.Step.{step_effect, step_fetched};
 ghost use Rattle.steps.specs.declared.effect.Effect.TheVariants.{Trap};
 ghost use Rattle.symbols.specs.Labels.{labelled};
-ghost use Rattle.explain.specs.WhyText.{failed_line};
 ghost use Rattle.hart.specs.Opening.{opening};
 ghost use Rattle.machine.specs.Run.{run_after};
-ghost use Rattle.sim_run.specs.Ending.{ending_lines, first_trap, is_trapped, last_trap, since_line, trap_lines, trap_part};
+ghost use Rattle.sim_run.specs.Ending.{ending_lines, is_trapped, last_trap, since_line, trap_lines, trap_part, trap_words};
 ghost use Rattle.schedules.specs.Schedule.{is_halted, scheduled, IsRunnable};
-ghost use Rattle.sim_run.specs.Unhandled.{trap_left, Trapped};
-ghost use Rattle.sim_run.specs.Watched.{IsTold};
+ghost use Rattle.sim_run.specs.Unhandled.{trap_left, Traps};
+ghost use Rattle.sim_run.specs.Watched.{HasLines};
 ghost use Rattle.sim_run.specs.Verdict.{status_of, verdict_line};
 
 use crate::unhandled::trap_left;
@@ -132,14 +131,12 @@ fn append_trap(
     number: u64,
 ) -> Result<(), AllocError>
     ensures { OnOk result (string_bytes text.new ≡ string_bytes text.old
-        ++ (codes "; first trap: " ++ trap_part symbols.now fault.mcause fault.mtval mepc ++ codes ", step " ++ decimal number
-        ++ codes "\n")) }
+        ++ (trap_part symbols.now fault.mcause fault.mtval mepc ++ codes ", step " ++ decimal number ++ codes "\n")) }
 {
     let part = trap_part(symbols, fault.mcause, fault.mtval, mepc);
     append(
         text,
         &[
-            Text("; first trap: "),
             Text(part.as_str()),
             Text(", step "),
             Decimal(number),
@@ -150,7 +147,7 @@ fn append_trap(
 
 /// Appends the trap of the next step, which was planned, to a text: with the step's number and, on a line of its own, the condition that
 /// fails.
-pub(crate) fn append_first_trap<C: CapRep>(
+pub(crate) fn append_trap_words<C: CapRep>(
     text: &mut String,
     symbols: &Symbols,
     machine: &Machine<C>,
@@ -161,15 +158,15 @@ pub(crate) fn append_first_trap<C: CapRep>(
     requires fetched { fetched ≡ step_fetched machine.now }
     requires running { is_halted machine.now ≡ false }
     requires traps { step_effect machine.now ≡ Trap fault }
-    ensures { OnOk result (string_bytes text.new ≡ string_bytes text.old ++ first_trap symbols.now number machine.now) }
+    ensures { OnOk result (string_bytes text.new ≡ string_bytes text.old ++ trap_words symbols.now number machine.now) }
 {
     append_trap(text, symbols, fault, pc(machine), number)?;
     put_failed(text, symbols, machine.hart(), fetched)
 }
 
-/// Appends how many steps since the first trap were traps of the fetch to a text.
+/// Appends how many steps since the last trap were traps of the fetch to a text.
 #[tactic(auto, unfolding(crate::specs::Ending::since_line))]
-fn append_since(text: &mut String, count: u64) -> Result<(), AllocError>
+pub(crate) fn append_since(text: &mut String, count: u64) -> Result<(), AllocError>
     ensures { OnOk result (string_bytes text.new ≡ string_bytes text.old ++ since_line count) }
 {
     if count == 0 {
@@ -185,22 +182,18 @@ fn append_since(text: &mut String, count: u64) -> Result<(), AllocError>
     )
 }
 
-/// Appends the trap that matters to a text: the first that nothing handled, with what was found of it, or else the last.
+/// Appends the traps that matter to a text: those lines, where the last step was a trap, or else the last that was taken.
 fn append_trap_lines<C: CapRep>(
     text: &mut String,
     symbols: &Symbols,
     machine: &Machine<C>,
-    unfetched: Option<u64>,
-    first: &str,
+    lines: &Option<String>,
 ) -> Result<(), AllocError>
-    ensures { OnOk result ((found : Option Trapped) → IsTold symbols.now unfetched first.now found
-        → string_bytes text.new ≡ string_bytes text.old ++ trap_lines symbols.now found machine.now) }
+    ensures { OnOk result ((left : Traps) → HasLines symbols.now lines.now left machine.now
+        → string_bytes text.new ≡ string_bytes text.old ++ trap_lines symbols.now left.first left.last machine.now) }
 {
-    match unfetched {
-        Some(count) => {
-            append(text, &[Text(first)])?;
-            append_since(text, count)
-        }
+    match lines {
+        Some(lines) => append(text, &[Text(lines)]),
         None => {
             append_last_trap(text, symbols, machine)?;
             append(text, &[Text("\n")])
@@ -208,10 +201,10 @@ fn append_trap_lines<C: CapRep>(
     }
 }
 
-/// The lines for standard error that say where a run of an image on a schedule ended: how many steps were done, where PCC is, and the
-/// trap that nothing handled, with its cause, what mtval says of it, the address where it was, the condition that failed, and how often
-/// the fetch of the trap's entry trapped later. Where every trap was handled it is the last of them, where one was taken. After an
-/// address stands its label.
+/// The lines for standard error that say where a run of an image on a schedule ended: how many steps were done, where PCC is, and, of a
+/// run that ended with a trap, the first that nothing handled, with its cause, what mtval says of it, the address where it was and the
+/// condition that failed; the last that followed steps that were none, if that is another; and how often the fetch of the trap's entry
+/// trapped later. Else it is the last trap, where one was taken. After an address stands its label.
 ///
 /// # Errors
 ///
@@ -230,9 +223,9 @@ pub fn ending_lines<C: CapRep>(
     ensures { IfOk result (λ text. string_bytes text
         ≡ ending_lines symbols.now steps (trap_left (scheduled schedule input.now (opening image.now)) (opening image.now)) machine.now) }
 {
-    let left = trap_left(alloc, symbols, image, schedule, input, machine)?;
+    let lines = trap_left(alloc, symbols, image, schedule, input, machine)?;
     let mut text = String::new(alloc);
     put_standing(&mut text, symbols, machine.hart(), steps)?;
-    append_trap_lines(&mut text, symbols, machine, left.unfetched, &left.text)?;
+    append_trap_lines(&mut text, symbols, machine, &lines)?;
     Ok(text)
 }

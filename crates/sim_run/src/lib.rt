@@ -3,6 +3,7 @@
 
 mod before;
 mod ending;
+mod notes;
 mod profile;
 mod run;
 mod stopping;

@@ -15,7 +15,7 @@ ghost use Rattle.sim_run.specs.Stopping.{events_met, is_asked, is_stop, is_viola
 ghost use Rattle.sim_run.specs.Stopped.{PassesStops};
 ghost use Rattle.sim_run.specs.StoppedLaws.{passes_more};
 
-use crate::unhandled::trap_in;
+use crate::notes::trap_in;
 use base::{Cause, Fault, Size};
 use cap_bounds::CapRep;
 use cap_checks::check_fetch;

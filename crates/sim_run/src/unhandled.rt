@@ -1,124 +1,36 @@
 //! The trap of a run that nothing handled.
 
 ghost use Rattle.std.proofs.Common.{◌∙◌};
-ghost use Rattle.std.specs.Prelude.{◌≡◌, ◌≤◌, ◌<◌, ◌+◌, ◌-◌, ◌^◌, ◌==◌, ℕ, true, List, [], ◌∷◌, Option, None, Some, IfOk, IfSome, OnOk};
-ghost use Rattle.std.specs.Prelude.{false, refl};
-ghost use Rattle.std.specs.Prelude.{string_bytes, ⊤};
+ghost use Rattle.std.specs.Prelude.{◌≡◌, ◌==◌, ℕ, true, List, [], ◌∷◌, None, IfOk, false, refl, ⊤};
 ghost use Rattle.special_regs.specs.Traps.{entry_address};
-ghost use Rattle.steps.specs.Applying.{meant, IsPlanned};
 ghost use Rattle.hart.specs.Opening.{opening};
 ghost use Rattle.steps.specs.State.{State};
-ghost use Rattle.steps.specs.Step.{step_effect, step_fetched};
-ghost use Rattle.steps.specs.declared.effect.Effect.TheVariants.{Trap};
 ghost use Rattle.steps.specs.declared.event.Event.{Event};
 ghost use Rattle.steps.specs.declared.event.Event.TheVariants.{Step};
 ghost use Rattle.machine.specs.Run.{run_after};
 ghost use Rattle.schedules.specs.Schedule.{is_halted, scheduled, IsRunnable};
-ghost use Rattle.sim_run.specs.Unhandled.{after_step, first_of, trap_left, unfetched_in, Trapped};
-ghost use Rattle.sim_run.specs.Watched.{counted_pace, trap_in, Counted, IsTold, Tells};
+ghost use Rattle.sim_run.specs.Unhandled.{trap_left};
+ghost use Rattle.sim_run.specs.Watched.{counted_pace, watching_pace, AreFew, Counted, HasLines, IsTold, Tells};
 ghost use Rattle.sim_run.specs.WatchedLaws.{counted_more, counted_none, tells_more, tells_none};
 
-use crate::ending::{append_first_trap, mcause, mtvec, pc};
-use base::Fault;
+use crate::ending::{mcause, mtvec, pc};
+use crate::notes::{First, Notes};
 use cap_bounds::CapRep;
 use hart::Planned;
 use image::Image;
 use machine::Machine;
 use schedules::{How, Pace, Schedule, Speed, Walking, Watch, walk_whole};
 use std::alloc::{AllocError, Global};
-use steps::{Effect, Fetched};
 use symbols::Symbols;
 
-/// The fault of a step that traps.
-pub(crate) fn trap_in<C: CapRep>(planned: &Planned<C>) -> Option<Fault>
-    ensures { result ≡ trap_in (meant C.value planned.now.effect) }
-{
-    match planned.effect {
-        Effect::Trap(fault) => Some(fault),
-        _ => None,
-    }
-}
-
-/// 1 where the fetch faults, else 0.
-fn unfetched_in(fetched: Fetched) -> u64
-    ensures value { result ≡ unfetched_in fetched }
-    ensures few { result ≤ 1 }
-{
-    match fetched {
-        Fetched::Fault => 1,
-        Fetched::Interrupt | Fetched::Word(..) => 0,
-    }
-}
-
-/// Counts the trap of the step of this number, which fetches so: the first becomes `text`, and of the others those of the fetch are
-/// counted.
-fn count_trap<C: CapRep>(
-    symbols: &Symbols,
-    machine: &Machine<C>,
-    number: u64,
-    fetched: Fetched,
-    fault: Fault,
-    unfetched: Option<u64>,
-    text: &mut String,
-) -> Result<u64, AllocError>
-    requires few { IfSome unfetched (λ n. n < number) }
-    requires some { 0 < number }
-    requires running { is_halted machine.now ≡ false }
-    requires fetched { fetched ≡ step_fetched machine.now }
-    requires traps { step_effect machine.now ≡ Trap fault }
-    ensures told { IfOk result (λ n. (found : Option Trapped) → IsTold symbols.now unfetched (string_bytes text.old) found
-        → IsTold symbols.now (Some n) (string_bytes text.new) (Some (first_of number machine.now found))) }
-    ensures few { IfOk result (λ n. n ≤ number) }
-{
-    match unfetched {
-        Some(count) => Ok(count + unfetched_in(fetched)),
-        None => {
-            text.clear();
-            append_first_trap(text, symbols, machine, number, fetched, fault)?;
-            Ok(0)
-        }
-    }
-}
-
-/// Looks at the step of this number, which is planned, and answers of the trap that is then left how many later steps were traps of the
-/// fetch. Its lines are `text`.
-fn look<C: CapRep>(
-    symbols: &Symbols,
-    machine: &Machine<C>,
-    planned: &Planned<C>,
-    number: u64,
-    unfetched: Option<u64>,
-    text: &mut String,
-) -> Result<Option<u64>, AllocError>
-    requires planned { IsPlanned C.value planned.now.effect machine.now }
-    requires fetched { planned.now.fetched ≡ step_fetched machine.now }
-    requires few { IfSome unfetched (λ n. n < number) }
-    requires some { 0 < number }
-    requires running { is_halted machine.now ≡ false }
-    ensures told { IfOk result (λ left. (found : Option Trapped) → IsTold symbols.now unfetched (string_bytes text.old) found
-        → IsTold symbols.now left (string_bytes text.new) (after_step number machine.now found)) }
-    ensures few { IfOk result (λ left. IfSome left (λ n. n ≤ number)) }
-{
-    match trap_in(planned) {
-        Some(fault) => {
-            let fetched = planned.fetched;
-            let count = count_trap(symbols, machine, number, fetched, fault, unfetched, text)?;
-            Ok(Some(count))
-        }
-        None => Ok(None),
-    }
-}
-
-/// A watch that remembers the trap that nothing handled. It stops before a step whose number has more than 64 bits.
+/// A watch that remembers the traps that are left. It stops before a step whose number has more than 64 bits.
 #[derive(Drop)]
 struct Unhandled<'a> {
     symbols: &'a Symbols,
     /// How many steps were done, the one that it was asked before among them.
     number: u64,
-    /// Of the trap that is left how many later steps were traps of the fetch.
-    unfetched: Option<u64>,
-    /// Its lines.
-    text: String,
+    /// What is known of the traps.
+    notes: Notes,
 }
 
 /// Where steps are done at once: they are no traps.
@@ -135,31 +47,42 @@ fn counted_pace(number: u64) -> Pace
     }
 }
 
+/// Where steps are done at once: no trap is open, so that none is handled by them.
+fn watching_pace(first: Option<First>, number: u64) -> Pace
+    ensures { result ≡ watching_pace first number }
+{
+    match first {
+        None => counted_pace(number),
+        Some(_) => Pace::of(Speed::Each),
+    }
+}
+
 impl<C: CapRep> Watch<Machine<C>> for Unhandled<'_> {
     type Fault = AllocError;
 
     ghost Saw = { λ events s a b. (b.symbols.now ≡ a.symbols.now) × Counted a.number b.number events
-        × Tells a.symbols.now a.number a.unfetched (string_bytes a.text) b.unfetched (string_bytes b.text) events s };
+        × Tells (IsTold a.symbols.now a.notes) (IsTold a.symbols.now b.notes) a.number events s };
 
     ghost Lost = { λ _ _ _ _ _. ⊥ };
 
     ghost Barred = { λ _ _ _ _ _. ⊤ };
 
     ghost Asked = { λ s a b. (b.symbols.now ≡ a.symbols.now) × Counted a.number b.number (Step ∷ [])
-        × Tells a.symbols.now a.number a.unfetched (string_bytes a.text) b.unfetched (string_bytes b.text) (Step ∷ []) s };
+        × Tells (IsTold a.symbols.now a.notes) (IsTold a.symbols.now b.notes) a.number (Step ∷ []) s };
 
-    ghost IsReady = { λ w. IfSome w.unfetched (λ n. n ≤ w.number) };
+    ghost IsReady = { λ w. AreFew w.number w.notes };
 
-    ghost pace_of = { λ w. counted_pace w.number };
+    ghost pace_of = { λ w. watching_pace w.notes.first w.number };
 
     ghost stops_at = { λ w _. w.number == 18446744073709551615 };
 
-    ghost starts = { λ s w. (refl, counted_none w.number, tells_none w.symbols.now w.number w.unfetched (string_bytes w.text) s) };
+    ghost starts = { λ s w. (refl, counted_none w.number, tells_none (IsTold w.symbols.now w.notes) w.number s) };
 
     ghost goes_on = { λ xs ys s u v w first later. (
       later.0 ∙ first.0,
       counted_more xs ys u.number v.number w.number first.1 later.1,
-      tells_more xs ys s u.symbols.now v.symbols.now u.number v.number _ _ _ _ _ _ first.0 first.1 first.2 later.2,
+      tells_more xs ys s u.symbols.now v.symbols.now u.number v.number (λ t. IsTold t u.notes) (λ t. IsTold t v.notes)
+          (λ t. IsTold t w.notes) first.0 first.1 first.2 later.2,
     ) };
 
     ghost fails_later = { λ fault xs ys s u v w first later. later };
@@ -167,7 +90,7 @@ impl<C: CapRep> Watch<Machine<C>> for Unhandled<'_> {
     ghost bars_later = { λ fault xs ys s u v w first later. tt };
 
     fn pace(&self) -> Pace {
-        counted_pace(self.number)
+        watching_pace(self.notes.first, self.number)
     }
 
     fn stops(&self, _machine: &Machine<C>, _planned: &Planned<C>) -> bool {
@@ -183,7 +106,7 @@ impl<C: CapRep> Watch<Machine<C>> for Unhandled<'_> {
         _sent: Option<u8>,
     ) -> Result<(), AllocError> {
         self.number = self.number.saturating_add(steps);
-        self.unfetched = None;
+        self.notes.last = None;
         Ok(())
     }
 
@@ -192,15 +115,7 @@ impl<C: CapRep> Watch<Machine<C>> for Unhandled<'_> {
             return Ok(());
         }
         self.number += 1;
-        self.unfetched = look(
-            self.symbols,
-            machine,
-            planned,
-            self.number,
-            self.unfetched,
-            &mut self.text,
-        )?;
-        Ok(())
+        self.notes.look(self.symbols, machine, planned, self.number)
     }
 
     fn after(&mut self, _machine: &Machine<C>, _sent: Option<u8>) -> Result<(), AllocError> {
@@ -208,44 +123,27 @@ impl<C: CapRep> Watch<Machine<C>> for Unhandled<'_> {
     }
 }
 
-/// The trap that a run left.
-#[derive(Drop)]
-pub(crate) struct Left {
-    /// How many later steps were traps of the fetch; none where no trap is left.
-    pub unfetched: Option<u64>,
-    /// Its lines.
-    pub text: String,
-}
-
-/// Runs a machine on a schedule, and answers the trap that is left.
+/// Runs a machine on a schedule, and answers what is then known of its traps.
 fn watch<C: CapRep>(
     alloc: Global,
     symbols: &Symbols,
     machine: &mut Machine<C>,
     schedule: Schedule,
     input: &[u8],
-) -> Result<Left, AllocError>
+) -> Result<Notes, AllocError>
     requires range { IsRunnable schedule }
     requires running { is_halted machine.old ≡ false }
-    ensures { IfOk result (λ left. IsTold symbols.now left.unfetched (string_bytes left.text)
-        (trap_left (scheduled schedule input.now machine.old) machine.old)) }
+    ensures { IfOk result (λ notes. IsTold symbols.now notes (trap_left (scheduled schedule input.now machine.old) machine.old)) }
 {
+    let notes = Notes::new(alloc);
     let mut watch = Unhandled {
         symbols,
         number: 0,
-        unfetched: None,
-        text: String::new(alloc),
+        notes,
     };
     let Walking { how, steps: _ } = walk_whole(machine, schedule, input, &mut watch);
     match how {
-        How::Done | How::Halted => {
-            let Unhandled {
-                unfetched,
-                text,
-                ..
-            } = watch;
-            Ok(Left { unfetched, text })
-        }
+        How::Done | How::Halted => Ok(watch.notes),
         // A schedule has fewer steps than have a number of 64 bits.
         How::Stopped => unreachable!(),
         How::Failed(_) => unreachable!(),
@@ -263,13 +161,13 @@ fn is_entry(address: u64, mtvec: u64, mcause: u64) -> bool
 
 /// Whether the last step may have been a trap: PCC is at a trap's entry.
 fn may_be_trapped<C: CapRep>(machine: &Machine<C>) -> bool
-    ensures { result ≡ false → (events : List Event) (s : State) → machine.now ≡ run_after events s → trap_left events s ≡ None }
+    ensures { result ≡ false → (events : List Event) (s : State) → machine.now ≡ run_after events s → (trap_left events s).last ≡ None }
 {
     is_entry(pc(machine), mtvec(machine), mcause(machine))
 }
 
-/// The trap that is left by a run of an image on a schedule, which ended with this machine. The run is done again only where the last
-/// step may have been a trap.
+/// The lines of the traps that are left by a run of an image on a schedule, which ended with this machine; none if its last step was no
+/// trap. The run is done again only where that may have been one.
 pub(crate) fn trap_left<C: CapRep>(
     alloc: Global,
     symbols: &Symbols,
@@ -277,20 +175,17 @@ pub(crate) fn trap_left<C: CapRep>(
     schedule: Schedule,
     input: &[u8],
     machine: &Machine<C>,
-) -> Result<Left, AllocError>
+) -> Result<Option<String>, AllocError>
     requires range { IsRunnable schedule }
     requires ended { machine.now ≡ run_after (scheduled schedule input.now (opening image.now)) (opening image.now) }
-    ensures { IfOk result (λ left. IsTold symbols.now left.unfetched (string_bytes left.text)
-        (trap_left (scheduled schedule input.now (opening image.now)) (opening image.now))) }
+    ensures { IfOk result (λ lines. (s : State)
+        → HasLines symbols.now lines (trap_left (scheduled schedule input.now (opening image.now)) (opening image.now)) s) }
 {
     if !may_be_trapped(machine) {
-        return Ok(Left {
-            unfetched: None,
-            text: String::new(alloc),
-        });
+        return Ok(None);
     }
     match Machine::<C>::new(alloc, image) {
-        Ok(mut again) => watch(alloc, symbols, &mut again, schedule, input),
+        Ok(mut again) => watch(alloc, symbols, &mut again, schedule, input)?.lines(alloc),
         Err(_) => Err(AllocError),
     }
 }

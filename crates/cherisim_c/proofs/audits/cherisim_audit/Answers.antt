@@ -1,4 +1,4 @@
-use Rattle.std.proofs.Common.{◌∙◌, subst}
+use Rattle.std.proofs.Common.{subst}
 use Rattle.std.specs.Prelude.{string_bytes}
 use Rattle.cherisim_c.specs.Policies.{IsAuditOf}
 use Rattle.cherisim_c.proofs.Buffers.{of_filled, of_long}
@@ -10,8 +10,7 @@ returns-in-Ok-clause-ok c =
     let told = string_bytes c.in-Ok.told in
     rw c.in-Some.ensures.value
     (λ done. of_filled (Tells c.in-Some.held.value) told c.as_str.result.now _
-    (subst (λ s. Tells s told) c.deref.ensures c.in-Ok.ensures.ok)
-    c.as_str.ensures.value (c.len.ensures ∙ c.in-Ok.told.bytes.ok.0) _ (c.copy.ensures.ok done))
+    (subst (λ s. Tells s told) c.deref.ensures c.in-Ok.ensures.ok) c.as_str.ensures.value _ (c.copy.ensures.ok done))
 
 pub returns-in-Ok-clause-full : goal.returns-in-Ok-clause-full
 returns-in-Ok-clause-full c =
@@ -19,5 +18,5 @@ returns-in-Ok-clause-full c =
     let told = string_bytes c.in-Ok.told in
     rw c.in-Some.ensures.value
     (λ done. of_long (Tells c.in-Some.held.value) told c.as_str.result.now _
-    (subst (λ s. Tells s told) c.deref.ensures c.in-Ok.ensures.ok)
-    c.as_str.ensures.value (c.len.ensures ∙ c.in-Ok.told.bytes.ok.0) _ _ (c.copy.ensures.full done))
+    (subst (λ s. Tells s told) c.deref.ensures c.in-Ok.ensures.ok) c.as_str.ensures.value _ _ c.copy.ensures.size
+    (c.copy.ensures.full done))

@@ -1,5 +1,4 @@
-use Rattle.std.proofs.Common.{refl, ◌∙◌, ap}
-use Rattle.std.specs.Prelude.{not, ◌&&◌}
+use Rattle.std.proofs.Common.{refl}
 use Rattle.std.proofs.lemmas.Result.{IfErr-weaker, on_ok_weaker}
 use Rattle.commands.specs.Imaging.FailsToImage.{at_build, at_elf, at_output}
 use Rattle.commands.proofs.Flat.{elf_known, fault_known, no_fault, written_whole}

@@ -4,8 +4,8 @@ use Rattle.policy.specs.Terms.{terms_of}
 use Rattle.every_run.specs.Opens.{EveryRunKeepsTo, IsHolds}
 use Rattle.commands.proofs.proving.verdict_of.Goals as goal
 
-pub returns : goal.returns
-returns c =
+pub returns-clause-ok : goal.returns-clause-ok
+returns-clause-ok c =
     let verdict = c.in_ok-verdict.verdict in
     let policy = c.args.rules.now.policy in
     subst (λ rules. IsHolds verdict → EveryRunKeepsTo (terms_of rules) policy.any.items (opening c.args.image.now)) c.deref-2.ensures.value

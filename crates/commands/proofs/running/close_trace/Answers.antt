@@ -1,4 +1,4 @@
 use Rattle.commands.proofs.running.close_trace.Goals as goal
 
-pub returns-in-Ok : goal.returns-in-Ok
-returns-in-Ok g c = (_, c.in-Ok.ensures.ok, c.close.ensures)
+pub returns-in-Ok-clause-ok : goal.returns-in-Ok-clause-ok
+returns-in-Ok-clause-ok g c = (_, c.in-Ok.ensures.ok, c.close.ensures)

@@ -11,5 +11,5 @@ returns c =
     on_ok_weaker c.append.result
     (λ e. e
     ∙ ap (λ more. string_bytes c.args.text.now
-    ++ (codes "; first trap: " ++ more ++ codes ", step " ++ decimal c.args.number ++ codes "\n")) part)
+    ++ (more ++ codes ", step " ++ decimal c.args.number ++ codes "\n")) part)
     c.append.ensures.bytes

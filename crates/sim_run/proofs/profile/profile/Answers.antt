@@ -15,7 +15,8 @@ returns-in-Done g c =
     × CountsMore c.args.symbols.now (fetches events s) c.new.result walk.new.watch.tally =
     ⊎_elim (λ is. let met = rw is at walk.ensures.whole in (met.0.steps, met.0.told.2))
     (λ is. let met = rw is at walk.ensures.whole in (met.0.steps, met.0.told.2)) c.in-Done.is in
-    let found = all_counted c.args.symbols.now events s c.new.result walk.new.watch.tally walk.result.steps c.new.ensures.empty all.0 all.1 in
+    let found =
+    all_counted c.args.symbols.now events s c.new.result walk.new.watch.tally walk.result.steps c.new.ensures.empty all.0 all.1 in
     c.profile_of.ensures (fetches events s) found.0 found.1 found.2
 
 pub unreachable-requires : goal.unreachable-requires

@@ -6,14 +6,14 @@ use Rattle.explain.specs.WhyText.{failed_line}
 use Rattle.sim_run.specs.Ending.{trap_part}
 use Rattle.sim_run.proofs.LeftTraps.{told-trap}
 use Rattle.sim_run.proofs.Texts.{text_on}
-use Rattle.sim_run.proofs.ending.append_first_trap.Goals as goal
+use Rattle.sim_run.proofs.ending.append_trap_words.Goals as goal
 
 pub returns : goal.returns
 returns g c =
     let s = c.args.machine.now in
     let old = string_bytes c.args.text.now in
     let f = c.args.fault in
-    let told : ℕ → List ℕ = λ mepc. codes "; first trap: " ++ trap_part c.args.symbols.now f.mcause f.mtval mepc ++ codes ", step "
+    let told : ℕ → List ℕ = λ mepc. trap_part c.args.symbols.now f.mcause f.mtval mepc ++ codes ", step "
     ++ decimal c.args.number ++ codes "\n" in
     let first : string_bytes c.append_trap.new.text ≡ old ++ told (pc_of s) =
     c.in_ok-append_trap.ensures ∙ ap (λ mepc. old ++ told mepc) c.pc.ensures in
