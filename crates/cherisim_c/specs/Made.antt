@@ -1,6 +1,6 @@
 -- What a machine for C is made of.
-use Rattle.std.specs.Prelude.{◌≡◌, ℕ, Bool, List, [], ◌∷◌, Option, Result, Err}
-use Rattle.image.specs.Image.{Image, Section, build_fault, image_of, mode_number}
+use Rattle.std.specs.Prelude.{◌≡◌, ℕ, Option, Result, Err}
+use Rattle.image.specs.Image.{Image}
 use Rattle.image.specs.Reads.{IsOfBytes}
 use Rattle.image.specs.declared.fault.ImageFault.{ImageFault}
 use Rattle.assembler.specs.declared.fault.AsmCode.{AsmCode}
@@ -20,14 +20,3 @@ pub record IsTextRefusal (found : Option (ℕ × AsmCode)) (line status : ℕ) :
   pub number : status ≡ text_status fault.code
   pub at_line : line ≡ fault.line
   pub first : IsFaultOf found fault
-
--- one section with these bytes
-abbrev pub flat_section : ℕ → List ℕ → List Section
-flat_section address bytes = record { address = address; bytes = bytes } ∷ []
-
--- an image of version 2 with that section, and without capabilities
-abbrev pub flat_fault : ℕ → ℕ → Bool → ℕ → List ℕ → Option ImageFault
-flat_fault pages entry mode address bytes = build_fault 2 pages entry (mode_number mode) (flat_section address bytes) []
-
-abbrev pub flat_image : ℕ → ℕ → Bool → ℕ → List ℕ → Image
-flat_image pages entry mode address bytes = image_of 2 pages entry (mode_number mode) (flat_section address bytes) []

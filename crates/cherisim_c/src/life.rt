@@ -3,12 +3,12 @@
 ghost use Rattle.std.specs.Prelude.{◌≡◌, ◌≢◌, ◌⊎◌, ◌≤◌, Some, None, IfSome, IfOk, IfErr, [], ◌∷◌, Ok};
 ghost use Rattle.image.specs.Grammar.{reading};
 ghost use Rattle.image.specs.Reads.{Answers};
-ghost use Rattle.image.specs.Image.{Image as ImageRecord, Builds};
+ghost use Rattle.image.specs.Image.{Image as ImageRecord, Builds, flat_fault, flat_image, mode_number};
 ghost use Rattle.assembler.specs.Left.{IsFaultOf};
 ghost use Rattle.assembler.specs.Text.{text_image, text_fault};
 ghost use Rattle.hart.specs.Opening.{opening};
 ghost use Rattle.cherisim_c.specs.Status.{no_memory, no_machine, image_status};
-ghost use Rattle.cherisim_c.specs.Made.{IsImageRefusal, IsTextRefusal, flat_fault, flat_image};
+ghost use Rattle.cherisim_c.specs.Made.{IsImageRefusal, IsTextRefusal};
 
 use crate::bytes::Bytes;
 use crate::handle::Handle;
@@ -83,7 +83,7 @@ fn flat(
     pages: u32,
     mode: bool,
 ) -> Result<Image, ImageFault>
-    ensures { Builds (flat_fault pages entry mode address bytes.now) (flat_image pages entry mode address bytes.now) result }
+    ensures { Builds (flat_fault 2 pages entry (mode_number mode) address bytes.now) (flat_image 2 pages entry (mode_number mode) address bytes.now) result }
 {
     Image::build_v2(
         alloc,
@@ -107,9 +107,9 @@ pub extern "C" fn cherisim_new_flat(
     mode: bool,
     machine: &mut Handle,
 ) -> u32
-    ensures ok { result ≡ 0 → machine.new.machine ≡ Some (opening (flat_image pages entry mode address bytes.now)) }
-    ensures fault { IfSome (flat_fault pages entry mode address bytes.now) (λ fault. result ≡ image_status fault) }
-    ensures only { flat_fault pages entry mode address bytes.now ≡ None → (result ≡ 0) ⊎ (result ≡ no_memory) }
+    ensures ok { result ≡ 0 → machine.new.machine ≡ Some (opening (flat_image 2 pages entry (mode_number mode) address bytes.now)) }
+    ensures fault { IfSome (flat_fault 2 pages entry (mode_number mode) address bytes.now) (λ fault. result ≡ image_status fault) }
+    ensures only { flat_fault 2 pages entry (mode_number mode) address bytes.now ≡ None → (result ≡ 0) ⊎ (result ≡ no_memory) }
     ensures same { 1 ≤ result → machine.new.machine ≡ machine.old.machine }
 {
     match flat(alloc, bytes, address, entry, pages, mode) {

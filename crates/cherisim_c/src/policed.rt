@@ -1,6 +1,6 @@
 //! What a question by a policy is asked with: labels, a policy, and when a run ends.
 
-ghost use Rattle.std.specs.Prelude.{◌≡◌, ◌↔◌, ℕ, List, None, Ok, IfOk, IfErr, IsTrue};
+ghost use Rattle.std.specs.Prelude.{◌≡◌, ℕ, List, None, Ok, IfOk, IfErr};
 ghost use Rattle.policy_text.specs.Policy.{any_code_of, policy_of};
 ghost use Rattle.policy_text.specs.Seen.{seen};
 ghost use Rattle.schedules.specs.Schedule.{IsRunnable};
@@ -49,16 +49,6 @@ fn policy_of(alloc: Global, text: &[u8], symbols: &Symbols) -> Result<Policy, Re
     }
 }
 
-/// Whether a machine can run by a schedule.
-fn is_runnable(schedule: Schedule) -> bool
-    ensures { IsTrue result ↔ IsRunnable schedule }
-{
-    schedule.steps <= 100_000_000_000_000
-        && 1 <= schedule.gap
-        && schedule.gap <= 1_000_000
-        && schedule.tick <= 1_000_000
-}
-
 /// The schedule of a timetable, if a machine can run by it.
 pub(crate) fn schedule_of(timetable: Timetable) -> Result<Schedule, Refusal>
     ensures ok { IfOk result (λ schedule. (schedule ≡ schedule_of timetable) × IsRunnable schedule) }
@@ -66,7 +56,7 @@ pub(crate) fn schedule_of(timetable: Timetable) -> Result<Schedule, Refusal>
 {
     let Timetable { steps, gap, tick } = timetable;
     let schedule = Schedule { steps, gap, tick };
-    if is_runnable(schedule) {
+    if schedule.is_runnable() {
         Ok(schedule)
     } else {
         Err(Refusal::Schedule)

@@ -9,9 +9,9 @@ use Rattle.base.specs.Ram.{ram_base, ram_end, page_bytes, most_pages, most_pages
 use Rattle.image.specs.declared.cap_entry.CapEntry.{CapEntry}
 use Rattle.image.specs.declared.fault.ImageFault.{ImageFault}
 use Rattle.image.specs.declared.fault.ImageFault.TheVariants.{L4, L6, L11}
-use Rattle.image.specs.Image.{Image, Section, Builds, build_fault, image_of, is_version, is_good_header}
+use Rattle.image.specs.Image.{Image, Section, Builds, build_fault, flat_fault, flat_sections, image_of, is_version, is_good_header}
 use Rattle.image.specs.ImageLaws.{header_ranges}
-use Rattle.commands.specs.Imaging.{given, default_pages, most_read, header_number, version_of, flat_sections, flat_fault, at_of, entry_of}
+use Rattle.commands.specs.Imaging.{given, default_pages, most_read, header_number, version_of, at_of, entry_of}
 use Rattle.commands.specs.Imaging.{mode_of, pages_of, fault_for, image_for, is_refused, MakesImage}
 use Rattle.hints.specs.Files.{is_elf}
 use Rattle.commands.specs.Files.{File, Gains, whole}
@@ -99,7 +99,8 @@ not_none fault e = absurd cc
 -- the fault of bytes that RAM has no room for says nothing of them
 pub same_fault : (pages entry mode at : ℕ) (xs ys : List ℕ)
     → (pages ≤ most_pages → page_bytes * pages < length xs) → (pages ≤ most_pages → page_bytes * pages < length ys)
-    → (flat_fault pages entry mode at xs ≡ flat_fault pages entry mode at ys) × (flat_fault pages entry mode at ys ≡ None → ⊥)
+    → (flat_fault (version_of pages) pages entry mode at xs ≡ flat_fault (version_of pages) pages entry mode at ys)
+    × (flat_fault (version_of pages) pages entry mode at ys ≡ None → ⊥)
 same_fault pages entry mode at xs ys large large_too = elim (cases_Bool (is_good_header (version_of pages) pages entry mode)) [
   | inl good ↦ (let few = (header_ranges (version_of pages) pages entry mode good).0 in
       let x = too_large (version_of pages) pages entry mode at xs (version_good pages) good (large few) in

@@ -4,7 +4,7 @@ use Rattle.std.specs.Prelude.{Bool, true, false, not, ◌&&◌, Option, Some, No
 use Rattle.base.specs.Ram.{ram_base, page_bytes, most_pages, most_pages_version_1}
 use Rattle.hints.specs.Files.{is_elf}
 use Rattle.image.specs.declared.fault.ImageFault.{ImageFault}
-use Rattle.image.specs.Image.{Image, Section, build_fault, image_of}
+use Rattle.image.specs.Image.{Image, flat_fault, flat_image}
 use Rattle.image.specs.declared.fault.ImageFault.TheVariants.{L11}
 use Rattle.image.specs.Grammar.{spelling}
 use Rattle.command_line.specs.declared.layout.Layout.{Layout}
@@ -32,15 +32,6 @@ header_number number = min number (2 ^ 32 - 1)
 abbrev pub version_of : ℕ → ℕ
 version_of pages = if nat_le pages most_pages_version_1 then 1 else 2
 
-abbrev pub flat_sections : ℕ → List ℕ → List Section
-flat_sections at bytes = record { address = at; bytes = bytes } ∷ []
-
-abbrev pub flat_image : ℕ → ℕ → ℕ → ℕ → List ℕ → Image
-flat_image pages entry mode at bytes = image_of (version_of pages) pages entry mode (flat_sections at bytes) []
-
-abbrev pub flat_fault : ℕ → ℕ → ℕ → ℕ → List ℕ → Option ImageFault
-flat_fault pages entry mode at bytes = build_fault (version_of pages) pages entry mode (flat_sections at bytes) []
-
 -- What stands for a number that isn't named: for the address of the first byte that of RAM's first, for the first instruction that of the
 -- first byte, for the mode integer mode, and for the pages 256 or as many more as hold the bytes.
 abbrev pub at_of : Layout → ℕ
@@ -56,10 +47,14 @@ abbrev pub pages_of : Layout → ℕ → ℕ
 pages_of layout count = given (default_pages (at_of layout) count) layout.pages
 
 abbrev pub image_for : Layout → List ℕ → Image
-image_for layout bytes = flat_image (pages_of layout (length bytes)) (entry_of layout) (mode_of layout) (at_of layout) bytes
+image_for layout bytes =
+    flat_image (version_of (pages_of layout (length bytes))) (pages_of layout (length bytes)) (entry_of layout) (mode_of layout)
+    (at_of layout) bytes
 
 abbrev pub fault_for : Layout → List ℕ → Option ImageFault
-fault_for layout bytes = flat_fault (pages_of layout (length bytes)) (entry_of layout) (mode_of layout) (at_of layout) bytes
+fault_for layout bytes =
+    flat_fault (version_of (pages_of layout (length bytes))) (pages_of layout (length bytes)) (entry_of layout) (mode_of layout)
+    (at_of layout) bytes
 
 -- An ELF is refused, unless its bytes are to be taken as they stand: what is read of it tells.
 abbrev pub is_refused : Layout → List ℕ → Bool

@@ -1,10 +1,10 @@
 //! The command `image`.
 
 ghost use Rattle.std.specs.Prelude.{◌≡◌, ◌&&◌, not, IfErr, OnOk, IfSome};
-ghost use Rattle.image.specs.Image.{Builds};
+ghost use Rattle.image.specs.Image.{Builds, flat_fault, flat_image};
 ghost use Rattle.commands.specs.Files.{bytes_of};
-ghost use Rattle.commands.specs.Imaging.{default_pages, fault_for, flat_fault, flat_image, header_number, image_for as image_for_layout};
-ghost use Rattle.commands.specs.Imaging.{most_read, FailsToImage, MakesImage};
+ghost use Rattle.commands.specs.Imaging.{default_pages, fault_for, header_number, image_for as image_for_layout};
+ghost use Rattle.commands.specs.Imaging.{most_read, version_of, FailsToImage, MakesImage};
 ghost use Rattle.hints.specs.Files.{is_elf};
 
 use crate::fault::ProgramFault;
@@ -51,8 +51,8 @@ fn image_of(
     mode: u64,
     section: (u64, &[u8]),
 ) -> Result<Image, ImageFault>
-    ensures { Builds (flat_fault pages entry mode section.entry.0 section.entry.1.now)
-        (flat_image pages entry mode section.entry.0 section.entry.1.now) result }
+    ensures { Builds (flat_fault (version_of pages) pages entry mode section.entry.0 section.entry.1.now)
+        (flat_image (version_of pages) pages entry mode section.entry.0 section.entry.1.now) result }
 {
     let pages = header_number(pages);
     let mode = header_number(mode);

@@ -135,6 +135,16 @@ image_of version pages entry mode sections capabilities =
       capabilities = capabilities;
     }
 
+-- A flat image: these bytes at an address, and no capability.
+abbrev pub flat_sections : ℕ → List ℕ → List Section
+flat_sections at bytes = record { address = at; bytes = bytes } ∷ []
+
+abbrev pub flat_fault : ℕ → ℕ → ℕ → ℕ → ℕ → List ℕ → Option ImageFault
+flat_fault version pages entry mode at bytes = build_fault version pages entry mode (flat_sections at bytes) []
+
+abbrev pub flat_image : ℕ → ℕ → ℕ → ℕ → ℕ → List ℕ → Image
+flat_image version pages entry mode at bytes = image_of version pages entry mode (flat_sections at bytes) []
+
 -- The answer to a build: the first fault, or else the image, unless memory runs out.
 abbrev pub Builds : Option ImageFault → Image → Result Image ImageFault → Type 0
 Builds (Some fault) image answer = answer ≡ Err fault

@@ -17,8 +17,14 @@ impl Schedule {
     pub fn is_in_range(self) -> bool
         ensures { IsTrue result ↔ IsInRange self }
     {
-        1 <= self.steps
-            && self.steps <= 100_000_000
+        1 <= self.steps && self.steps <= 100_000_000 && self.is_runnable()
+    }
+
+    /// Whether a run that counts its steps can go by it: at most 10^14 steps, and a gap and a tick in their ranges.
+    pub fn is_runnable(self) -> bool
+        ensures { IsTrue result ↔ IsRunnable self }
+    {
+        self.steps <= 100_000_000_000_000
             && 1 <= self.gap
             && self.gap <= 1_000_000
             && self.tick <= 1_000_000

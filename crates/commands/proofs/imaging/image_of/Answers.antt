@@ -2,7 +2,8 @@ use Rattle.std.proofs.Common.{refl, arith, [], ◌≤◌, ◌<◌, ◌≡◌, �
 use Rattle.std.specs.Prelude.{nat_le}
 use Rattle.std.proofs.Math.Nat.{min-le_left}
 use Rattle.std.proofs.lemmas.Bool.{lt-leb, le-leb}
-use Rattle.commands.specs.Imaging.{flat_sections, header_number}
+use Rattle.image.specs.Image.{flat_sections}
+use Rattle.commands.specs.Imaging.{header_number}
 use Rattle.commands.proofs.Flat.{builds_same}
 use Rattle.commands.proofs.imaging.image_of.Goals as goal
 
