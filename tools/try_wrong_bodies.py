@@ -17,12 +17,16 @@ changes a constant or a line of a table names that function in a line `in: TYPE:
 one function, or one text, are tried one after the other, in checks of these functions alone; one whose callee has another wrong body,
 where the check says no more than that the callee isn't proved, is tried again without those that were refused.
 
+What a function calls is taken by its contract: a hole stands for the proof of each function that has no wrong body. Where the library
+doesn't say where its functions' proofs stand, the check proves what they call, too.
+
 A sample reserves for each crate one check of the functions of the wrong bodies that fit. It uses at most half as much again as it is
 given: what would go beyond that is left for another commit's turn, and said.
 
 It stands on the libraries below each crate in crates/*/out/rlib, as the gate or `rt lib` leaves them.
 """
 import concurrent.futures
+import contextlib
 import glob
 import hashlib
 import os
@@ -33,7 +37,7 @@ import sys
 import tempfile
 import threading
 
-from toolchain import ROOT, compiler, crates, folder_of, over_the_logic, words
+from toolchain import ROOT, built, compiler, crates, folder_of, over_the_logic, words
 
 FOLDERS = ("must-fail", "wrong-bodies")
 PARTS = ("src", "specs", "proofs")
@@ -49,6 +53,15 @@ BEYOND = 1.5
 
 # A proof that names what a wrong body took away says nothing of a contract.
 GONE = re.compile(r"has no field|is not in scope|has no `|was not admitted")
+
+# What a built library says of a function: where its proof stands, and what was made there; a member of a trait has its proof in each impl.
+MADE = re.compile(r'"proofs/(.+)/(Statement|Proof)"')
+MEMBER = "MemberProof"
+HOLE = """use Rattle.{crate}.proofs.{place}.Statement.{{statement}}
+
+pub {name}_spec : {{M : Type 1}} → statement M
+{name}_spec = ?
+"""
 
 PRINTING = threading.Lock()
 
@@ -150,12 +163,44 @@ def function_of(crate, path, old):
     return "::".join([*([impl_name(heads[-1])] if heads else inside), name])
 
 
+def places_of(crate):
+    """Where in proofs/ the proof of each function of a built crate stands that has one of its own: its library lists what was made of each
+    function, a line that says where and a line that begins with what."""
+    listing = os.path.join(built(crate), "lang", "antt", "made.json")
+    if not os.path.exists(listing):
+        return []
+    with open(listing, encoding="utf-8") as file:
+        lines = file.read().split("\n")
+    made = {(found[1], found[2]): kind.partition('"')[2].partition('"')[0]
+            for line, kind in zip(lines, lines[1:]) if (found := MADE.fullmatch(line))}
+    return [place for (place, what), kind in made.items() if kind == what == "Statement" and made.get((place, "Proof"), MEMBER) != MEMBER]
+
+
+def is_place_of(place, functions):
+    """Whether the proof of one of these functions stands there."""
+    name = "::" + place.replace("/+", "/").replace("/", "::")
+    return any(name.endswith(f"::{function}") for function in functions)
+
+
 class Checker:
     """Checks copies of a crate, over the libraries below it, and keeps of each check how many functions it was of and what it took."""
 
     def __init__(self, crate, known):
-        self.crate, self.took = crate, []
+        self.crate, self.took, self.places = crate, [], places_of(crate)
         self.words = [compiler(), "check", *words(crate, known), *over_the_logic(1)]
+
+    def lay_holes(self, room, functions):
+        """Puts a hole in place of the proof of each other function than these; answers what a check is given for it."""
+        for place in self.places:
+            if not is_place_of(place, functions):
+                folder, name = os.path.join(room, "proofs", place), place.rpartition("/")[2]
+                os.makedirs(folder, exist_ok=True)
+                for known in ("Answers.antt", "Invariants.antt"):
+                    with contextlib.suppress(FileNotFoundError):
+                        os.remove(os.path.join(folder, known))
+                with open(os.path.join(folder, "Proof.antt"), "w", encoding="utf-8") as file:
+                    file.write(HOLE.format(crate=self.crate, place=place.replace("/", "."), name=name))
+        return ["--allow-holes"] if self.places else []
 
     def report(self, texts, functions):
         """What a check says of these functions, and of what they call, of a copy with these texts."""
@@ -166,7 +211,7 @@ class Checker:
             for path, text in texts.items():
                 with open(os.path.join(room, path), "w", encoding="utf-8") as file:
                     file.write(text)
-            only = [word for it in sorted(functions) for word in ("--only", it)]
+            only = [*self.lay_holes(room, functions), *(word for it in sorted(functions) for word in ("--only", it))]
             how = {"cwd": room, "stdin": subprocess.DEVNULL, "stdout": subprocess.PIPE, "stderr": subprocess.STDOUT}
             with subprocess.Popen([*self.words, *only], encoding="utf-8", errors="replace", **how) as run:
                 said = run.stdout.read()

@@ -6,6 +6,8 @@ ghost use Rattle.bounds_text.specs.Picture.{column_of, column_size, mark, pictur
 
 use arrayvec::ArrayString;
 use cap_bounds::Window;
+use texts::Piece::Text;
+use texts::fill;
 
 /// How many addresses a column of the picture stands for.
 #[tactic(auto, unfolding(crate::specs::Picture::column_size))]
@@ -60,7 +62,7 @@ pub(crate) fn picture(span: Span) -> ArrayString<64>
 {
     let mut text = ArrayString::new();
     for column in 0..64 {
-        text.push_str(mark(span, column));
+        fill(&mut text, &[Text(mark(span, column))]);
     }
     text
 }

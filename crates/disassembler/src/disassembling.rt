@@ -56,10 +56,9 @@ fn insn_text(insn: &Insn, mode: bool) -> ArrayString<64>
     requires { HasRegisters insn.now }
     ensures { result.bytes ≡ shown_insn mode insn.now }
 {
-    let mut text = ArrayString::new();
-    text.push_str(mnemonic(insn.row, mode));
-    append_operands(&mut text, insn, mode, slots_of(insn.row));
-    text
+    let mut line = text(&[Text(mnemonic(insn.row, mode))]);
+    append_operands(&mut line, insn, mode, slots_of(insn.row));
+    line
 }
 
 fn number(word: u32) -> ArrayString<64>

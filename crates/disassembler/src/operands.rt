@@ -44,7 +44,7 @@ fn append_slot(text: &mut ArrayString<64>, before: &str, insn: &Insn, mode: bool
     ensures text { text.new.bytes ≡ text.old.bytes ++ before.now ++ shown_slot mode insn.now slot }
     ensures within { array_string_len text.new ≤ array_string_len text.old + (length before.now + slot_width slot) }
 {
-    text.push_str(before);
+    fill(text, &[Text(before)]);
     fill(text, &slot_pieces(insn, mode, slot));
 }
 

@@ -117,7 +117,7 @@ pub fn trap_text(mcause: u64, mtval: u64) -> ArrayString<128>
     ensures length { array_string_len result ≤ 96 }
 {
     let mut words = text(&cause_words(mcause));
-    words.push_str(", ");
+    fill(&mut words, &[Text(", ")]);
     fill(&mut words, &value_words(mcause, mtval));
     words
 }

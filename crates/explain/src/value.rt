@@ -9,7 +9,7 @@ use asm_names::{csr_name, register_name, scr_name};
 use cap_bounds::CapRep;
 use cap_rights::Perms;
 use texts::Piece::{Hexadecimal, Text};
-use texts::{pieces, text};
+use texts::{fill, pieces, text};
 
 /// A truth value as a digit.
 fn digit(flag: bool) -> &'static str
@@ -64,7 +64,7 @@ pub(crate) fn written_first<C: CapRep>(rd: u8, value: C) -> ArrayString<96>
 {
     let mut part = written_or("", rd, value);
     if rd != 0 {
-        part.push_str(", ");
+        fill(&mut part, &[Text(", ")]);
     }
     part
 }

@@ -23,7 +23,7 @@ fn are_printable(text: &[u8]) -> bool
 }
 
 /// What is said of a line, by its first fault.
-fn meant(alloc: Global, text: &[u8], line: &[u8]) -> Result<Vec<u8>, AllocError> {
+fn proposed(alloc: Global, text: &[u8], line: &[u8]) -> Result<Vec<u8>, AllocError> {
     let faulty = Faulty::new(line);
     match parse_line(line).fault {
         Some(LineFault::A1) => unknown(alloc, faulty),
@@ -45,7 +45,7 @@ pub fn hint(alloc: Global, text: &[u8], line: &[u8]) -> Result<Vec<u8>, AllocErr
     ensures short { IfOk result (λ hint. vec_len hint ≤ 200) }
     ensures printable { IfOk result (λ hint. IsTrue (are_printable hint.items)) }
 {
-    let hint = meant(alloc, text, line)?;
+    let hint = proposed(alloc, text, line)?;
     if hint.len() <= MOST_BYTES && are_printable(&hint) {
         Ok(hint)
     } else {

@@ -59,7 +59,7 @@ pub(crate) fn range_text(range: Range) -> ArrayString<79>
         return text(&from_on(u128::from(range.from)));
     }
     let mut whole = text(&from_to(0, HALF));
-    whole.push_str(" ");
+    fill(&mut whole, &[Text(" ")]);
     fill(&mut whole, &from_on(HALF));
     whole
 }
