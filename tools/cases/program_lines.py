@@ -116,7 +116,7 @@ def cut_short(name):
 
 
 def no_label(name, line):
-    """Of a table of labels, a line that is none."""
+    """Of a table of labels, that a line has no address and label."""
     return f"cherisim: line {line}: no address and label\n  {name}:{line}\n"
 
 
