@@ -1,4 +1,6 @@
 """What the tests share: where things are, and images by the grammar of docs/ASSEMBLY.md."""
+import contextlib
+import io
 import os
 import re
 import shutil
@@ -31,6 +33,13 @@ def needs(*programs):
         print(f"skipped: {it} is not installed", flush=True)
     MISSING.update(missing)
     return unittest.skipIf(missing, f"not installed: {', '.join(missing)}")
+
+
+def said(call, *given):
+    """What a command answers, and what it prints."""
+    with contextlib.redirect_stdout(io.StringIO()) as out:
+        status = call(*given)
+    return status, out.getvalue()
 
 
 def has_program():

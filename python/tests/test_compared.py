@@ -13,7 +13,7 @@ import types
 import unittest
 
 import support
-from support import GCC, RAM
+from support import GCC, RAM, said
 import signature
 from cherisim import Machine
 from cherisim import compare_qemu
@@ -23,13 +23,6 @@ from cherisim._random_programs import (AT_TIME, CODE, DATA, DIRECT, HANDLER, STA
 
 STEPS = int(os.environ.get("CHERISIM_QEMU_STEPS", "10000"))
 TESTS = os.path.dirname(os.path.abspath(__file__))
-
-
-def said(call, *given):
-    """What a command answers, and what it prints."""
-    with contextlib.redirect_stdout(io.StringIO()) as out:
-        status = call(*given)
-    return status, out.getvalue()
 
 
 class RandomPrograms(unittest.TestCase):

@@ -9,7 +9,7 @@ from random import Random
 
 import support  # where tools/ is found
 from cherisim import CSRS, SCRS, Cap, Machine
-from model.capabilities import and_perms, capability, integer, is_unsealed, seal, set_address, set_bounds, with_fields
+from model.capabilities import and_perms, integer, is_unsealed, seal, set_address, set_bounds, with_fields
 from model.devices import CONTROL, HALT, RAM, RECEIVE, STATUS, TIMER, TIMER_COMPARE, TRANSMIT
 from model.machine import Machine as Model
 from model.machine import root

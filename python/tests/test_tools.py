@@ -1,5 +1,4 @@
 """The programs of python/examples, and the package that pip installs."""
-import contextlib
 import doctest
 import importlib.util
 import io
@@ -15,19 +14,13 @@ import unittest
 import zipfile
 
 import support
+from support import said
 import fuzz
 import property as holds
 import rvfi
 from cherisim import REGISTERS, Cap, Machine, Stop
 from cherisim._calls import CONSTANTS
 from cherisim.records import operands
-
-
-def said(call, *given):
-    """What a program answers, and what it prints."""
-    with contextlib.redirect_stdout(io.StringIO()) as out:
-        status = call(*given)
-    return status, out.getvalue()
 
 
 class Examples(unittest.TestCase):

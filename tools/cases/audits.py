@@ -6,7 +6,7 @@ What is written is what the model of a machine meets (model/machine.py, cases/wa
 
 from cases.callers import BY_PAIR, BY_SENTRY, LENT, SENTRY, by_caller, calling, rule
 from cases.policed import CALL, FIRST, HALTS, KEEPS, RUNS_OFF, UNTAGGED, WHOLE, Watch, image_of, inside, program, sealed
-from cases.program_lines import BAD, FILE, NO_IMAGE, TRACE, case
+from cases.program_lines import BAD, FILE, NO_IMAGE, TRACE, case, fails, missing
 from cases.quoting import quoted
 from cases.watched import GAP, TICK, audited, entered
 from model import policy
@@ -166,11 +166,10 @@ def entries():
 
 def files_and_words():
     yield "# files that can't be read, and a text that is refused: nothing is written"
-    yield case("audit none 5", [FILE], 3, "open none", told="cherisim: file none\n  No such file or directory\n")
-    yield case("audit bad.img 5 --policy none", [BAD], 3, "open bad.img", told=NO_IMAGE)
-    yield case("audit first.img 5 --policy p", [FILE, 'p "x"'], 3, "open first.img, open p", told=policy.refused("P1", 1, "p"))
-    yield case("audit first.img 5 --input none", [FILE], 3, "open first.img, open none",
-               told="cherisim: file none\n  No such file or directory\n")
+    yield fails("audit none 5", [FILE], "open none", missing("none"))
+    yield fails("audit bad.img 5 --policy none", [BAD], "open bad.img", NO_IMAGE)
+    yield fails("audit first.img 5 --policy p", [FILE, 'p "x"'], "open first.img, open p", policy.refused("P1", 1, "p"))
+    yield fails("audit first.img 5 --input none", [FILE], "open first.img, open none", missing("none"))
 
 
 def files():

@@ -1,18 +1,12 @@
 """Cases of images: what is built, what files are read and what they are written back as, and each fault."""
 
+from cases.values import bytes_text as text
 from model.devices import RAM
 from model.images import (END, FIRST, GRANTED, LAST_END, MOST, MOST_END, NEXT_END, NO_SECTION, ONE_CAPABILITY, ONE_INSN, ROOT, TWO, file_v2,
                           granted, header, number, patched, section)
 from model.words import ONES, SPACE
 
 ONES32 = 2**32 - 1
-
-
-def text(contents):
-    """Bytes as an answer has them."""
-    if len(contents) > 1 and len(set(contents)) == 1:
-        return f"{contents[0]:02x}*{len(contents)}"
-    return contents.hex() or "-"
 
 
 def build(pages, entry, mode, sections, answer):

@@ -4,7 +4,7 @@ are refused.
 What is told of a run is what the model of a machine meets (model/machine.py, cases/watched.py); a text's fault is that of the grammar.
 """
 
-from cases.program_lines import BAD, FILE, NO_IMAGE, TRACE, case, refused, table
+from cases.program_lines import BAD, FILE, NO_IMAGE, NOT_HALTED, TRACE, case, fails, is_directory, missing, no_label, refused, table, unread
 from cases.quoting import quoted
 from cases.watched import GAP, TICK, ran
 from model import policy
@@ -125,7 +125,7 @@ def first_image():
     yield goes(FIRST, last, 4, named=False)
     yield stops(FIRST, last, 5, named=False)
     yield "# --quiet leaves out all but the first line; --times and a trace go with a policy"
-    yield Watch(FIRST, last, options="--quiet", named=False).line("cherisim: not halted\n")
+    yield Watch(FIRST, last, options="--quiet", named=False).line(NOT_HALTED)
     watch.words = "run first.img 2 --times 3 --policy p"
     yield watch.line()
     watch.words = "run first.img 9 --policy p --trace t"
@@ -401,27 +401,23 @@ def faulty():
     for code, texts in FAULTY.items():
         for line, text in texts:
             assert policy.read(text, labels)[1] == (code, line), (text, policy.read(text, labels))
-            yield case("run first.img 5 --policy p --symbols t", [FILE, table, f"p {quoted(text + chr(10))}"], 3,
-                       "open first.img, open t, open p", told=policy.refused(code, line, "p"))
+            yield fails("run first.img 5 --policy p --symbols t", [FILE, table, f"p {quoted(text + chr(10))}"],
+                        "open first.img, open t, open p", policy.refused(code, line, "p"))
     yield "# of two the first; a label isn't known without a table"
     for text, code in (("B = A\r\nA = 0..0\r\n", "P2"), ("A = 0..0\r\nB = A\r\n", "P5"), ("A = code..+4", "P2")):
-        yield case("run first.img 5 --policy p", [FILE, f"p {quoted(text)}"], 3, "open first.img, open p",
-                   told=policy.refused(code, 1, "p"))
+        yield fails("run first.img 5 --policy p", [FILE, f"p {quoted(text)}"], "open first.img, open p", policy.refused(code, 1, "p"))
 
 
 def files_and_words():
     yield "# files that can't be read, in the order in which they are"
-    none = "cherisim: file none\n  No such file or directory\n"
-    yield case("run first.img 5 --policy none", [FILE], 3, "open first.img, open none", told=none)
-    yield case("run first.img 5 --policy d", [FILE, "directory d"], 3, "open first.img, open d",
-               told="cherisim: file d\n  Is a directory\n")
-    yield case("run first.img 5 --policy p", [FILE, 'p 0 "A = 0..1"'], 3, "open first.img, open p",
-               told="cherisim: read failed\n  p: Broken pipe\n")
-    yield case("run bad.img 5 --policy none", [BAD], 3, "open bad.img", told=NO_IMAGE)
-    yield case("run first.img 5 --policy p --symbols none", [FILE, 'p "x"'], 3, "open first.img, open none", told=none)
-    yield case("run first.img 5 --policy p --symbols t", [FILE, 'p "x"', 't "x"'], 3, "open first.img, open t",
-               told="cherisim: line 1: no address and label\n  t:1\n")
-    yield case("run first.img 5 --policy p --input none", [FILE, 'p "x"'], 3, "open first.img, open p", told=policy.refused("P1", 1, "p"))
+    none = missing("none")
+    yield fails("run first.img 5 --policy none", [FILE], "open first.img, open none", none)
+    yield fails("run first.img 5 --policy d", [FILE, "directory d"], "open first.img, open d", is_directory("d"))
+    yield fails("run first.img 5 --policy p", [FILE, 'p 0 "A = 0..1"'], "open first.img, open p", unread("p"))
+    yield fails("run bad.img 5 --policy none", [BAD], "open bad.img", NO_IMAGE)
+    yield fails("run first.img 5 --policy p --symbols none", [FILE, 'p "x"'], "open first.img, open none", none)
+    yield fails("run first.img 5 --policy p --symbols t", [FILE, 'p "x"', 't "x"'], "open first.img, open t", no_label("t", 1))
+    yield fails("run first.img 5 --policy p --input none", [FILE, 'p "x"'], "open first.img, open p", policy.refused("P1", 1, "p"))
     yield "# command lines that are refused"
     for words in ("--policy p --why", "--why=all --policy p", "--policy", "--policy p --policy p",
                   "--policy p --symbols t --symbols t", "--policy p --trace p", "--policy p --symbols t --trace t"):

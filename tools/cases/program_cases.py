@@ -6,7 +6,8 @@ The statuses, the order of faults and the texts are those of the program's descr
 import re
 
 from cases.bounds_texts import length_text, text as bounds_text, word_text
-from cases.program_lines import BAD, FILE, LISTED, NO_IMAGE, REPLY, TEXT, case, file_of, joined, refused
+from cases.program_lines import BAD, FILE, LISTED, NO_IMAGE, REPLY, TEXT, UNWRITTEN, case, cut_short, fails, file_of, is_directory
+from cases.program_lines import joined, missing, no_label, refused, unread
 from cases.program_runs import ended_otherwise, ends, labelled_runs, not_begun, profiles, runs_without_table, traces
 from cases.program_sessions import debugged, reached, replayed, tables_refused
 from cases.program_sources import sources
@@ -137,31 +138,27 @@ def images():
                 ("--at 0 --entry 0x80000000", "L6 section outside RAM"),
                 ("--at 18446744073709551615 --entry 0x80000000", "L6 section outside RAM")]
     for options, text in refusals:
-        yield case(f"image flat out.img {options}", [file], 3, "open flat", told=f"cherisim: {text}\n  flat\n")
+        yield fails(f"image flat out.img {options}", [file], "open flat", f"cherisim: {text}\n  flat\n")
     yield "# of a file that is larger than RAM one byte more than RAM has room for is read: the call after it, which fails, isn't made"
     large = bytes(4098)
-    yield case("image flat out.img --pages 1", [f"flat 4097 {quoted(large)}"], 3, "open flat",
-               told="cherisim: L6 section outside RAM\n  flat\n")
-    yield case("image flat out.img --pages 1", [f"flat 4096 {quoted(large)}"], 3, "open flat",
-               told="cherisim: read failed\n  flat: Broken pipe\n")
+    yield fails("image flat out.img --pages 1", [f"flat 4097 {quoted(large)}"], "open flat", "cherisim: L6 section outside RAM\n  flat\n")
+    yield fails("image flat out.img --pages 1", [f"flat 4096 {quoted(large)}"], "open flat", unread("flat"))
     yield "# an ELF is refused before the layout is looked at, unless its bytes are to be taken as they stand"
     elf = b"\x7fELF\x02\x01\x01" + bytes(13)
     told = ("cherisim: ELF, not flat bytes\n  elf\n"
             "  hint: make flat bytes of it by objcopy -O binary (docs/COMPILED.md); --flat-elf takes its bytes as they stand\n")
     for options in ("", " --at 0", " --pages 65537", " --mode 2 --entry 2"):
-        yield case(f"image elf out.img{options}", [f"elf {quoted(elf)}"], 3, "open elf", told=told)
-    yield case("image elf out.img", [f"elf {quoted(elf[:4])}"], 3, "open elf", told=told)
-    yield case("image elf out.img --quiet", [f"elf {quoted(elf)}"], 3, "open elf", told="cherisim: ELF, not flat bytes\n")
+        yield fails(f"image elf out.img{options}", [f"elf {quoted(elf)}"], "open elf", told)
+    yield fails("image elf out.img", [f"elf {quoted(elf[:4])}"], "open elf", told)
+    yield fails("image elf out.img --quiet", [f"elf {quoted(elf)}"], "open elf", "cherisim: ELF, not flat bytes\n")
     yield case("image elf out.img --flat-elf", [f"elf {quoted(elf)}"], 0, "open elf, make out.img", made=flat_image(elf))
-    yield case("image elf out.img --flat-elf --mode 2", [f"elf {quoted(elf)}"], 3, "open elf",
-               told="cherisim: L4 pages, entry or mode\n  elf\n")
-    yield case("image elf out.img --pages 0", [f"elf {quoted(elf)}"], 3, "open elf", told="cherisim: L4 pages, entry or mode\n  elf\n")
+    yield fails("image elf out.img --flat-elf --mode 2", [f"elf {quoted(elf)}"], "open elf", "cherisim: L4 pages, entry or mode\n  elf\n")
+    yield fails("image elf out.img --pages 0", [f"elf {quoted(elf)}"], "open elf", "cherisim: L4 pages, entry or mode\n  elf\n")
     yield case("image elf out.img", [f"elf {quoted(elf[:3])}"], 0, "open elf, make out.img", made=flat_image(elf[:3]))
     yield case("image elf out.img", [f"elf {quoted(elf[1:])}"], 0, "open elf, make out.img", made=flat_image(elf[1:]))
     yield case("image flat out.img --flat-elf", [file], 0, opened, made=flat_image(flat))
-    yield case("image none out.img", [file], 3, "open none", told="cherisim: file none\n  No such file or directory\n")
-    yield case("image flat out.img", [file, "made 3"], 3, opened,
-               told="cherisim: L10 device failed\n  out.img: the file is cut short\n", made=flat_image(flat)[:3])
+    yield fails("image none out.img", [file], "open none", missing("none"))
+    yield fails("image flat out.img", [file, "made 3"], opened, cut_short("out.img"), made=flat_image(flat)[:3])
 
 
 def parted(lines):
@@ -200,8 +197,7 @@ def faulty_line(number, told):
 
 def named():
     yield "# labels: those of a text are written after its image, and a listing shows those of a table"
-    yield case("asm a.s out.img --symbols a.sym", [TEXT], 3, "open a.s, make out.img, make a.sym",
-               told="cherisim: file a.sym\n  No such file or directory\n", made=FIRST)
+    yield fails("asm a.s out.img --symbols a.sym", [TEXT], "open a.s, make out.img, make a.sym", missing("a.sym"), made=FIRST)
     table = 't "0000000080000000 start\\n000000008000000C halt\\n"'
     lines = LISTED.splitlines(True)
     yield case("dis first.img --symbols t", [FILE, table], 0, "open first.img, open t",
@@ -221,11 +217,9 @@ def named():
     yield case("dis jumps.img --symbols t", [jumps, unsorted], 0, "open jumps.img, open t",
                "a:\ne:\n0000000080000000 00c0006f jal zero, .+12 <b+4>\n0000000080000004 00000013 addi zero, zero, 0\n"
                "b:\nc:\n0000000080000008 00000013 addi zero, zero, 0\n000000008000000c ffdff06f jal zero, .-4 <b>\n")
-    yield case("dis first.img --symbols t", [FILE, table.replace(" halt", "  halt")], 3, "open first.img, open t",
-               told="cherisim: line 2: no address and label\n  t:2\n")
-    yield case("dis first.img --symbols none", [FILE], 3, "open first.img, open none",
-               told="cherisim: file none\n  No such file or directory\n")
-    yield case("dis bad.img --symbols none", [BAD], 3, "open bad.img", told=NO_IMAGE)
+    yield fails("dis first.img --symbols t", [FILE, table.replace(" halt", "  halt")], "open first.img, open t", no_label("t", 2))
+    yield fails("dis first.img --symbols none", [FILE], "open first.img, open none", missing("none"))
+    yield fails("dis bad.img --symbols none", [BAD], "open bad.img", NO_IMAGE)
     yield from debugged(table)
     yield from replayed()
     yield from reached()
@@ -233,35 +227,35 @@ def named():
     yield "# what setting bounds gives"
     yield case("bounds 0x80000000 4097 --address 2147487744", [], 0, sent=shown(0x80000000, 4097, 0x80001000))
     yield case("bounds 18446744073709551615 2", [], 0, sent=shown(ONES, 2, None))
-    yield case("bounds 0 1", ["output 0"], 3, told="cherisim: write failed\n")
+    yield case("bounds 0 1", ["output 0"], 3, told=UNWRITTEN)
     yield "# what an allocator asks of a length, and what a word means"
     yield case("bounds 4097", [], 0, sent=joined(length_text(4097)))
-    yield case("bounds 0x1001", ["output 20"], 3, sent=joined(length_text(4097))[:20], told="cherisim: write failed\n")
+    yield case("bounds 0x1001", ["output 20"], 3, sent=joined(length_text(4097))[:20], told=UNWRITTEN)
     yield case("word 0xffff1ffffc018004 0x80000000", [], 0, sent=joined(word_text(ROOT_HIGH, 0x80000000)))
     yield case("word --memory 0xffff000000000000 0x80000000", [], 0, sent=joined(word_text(ROOT_HIGH, 0x80000000)))
-    yield case("word 0 0", ["output 0"], 3, told="cherisim: write failed\n")
+    yield case("word 0 0", ["output 0"], 3, told=UNWRITTEN)
     yield "# what was read of a faulty line stands on a line of its own after the fault, with the file and the line"
-    yield from (case("asm a.s out.img", [text_of(lines)], 3, "open a.s", told=underlined(fault, lines, words))
-                for fault, lines, words in UNDERLINED)
-    yield case("asm a.s out.img", ['a.s "nop\\x01\\n"'], 3, "open a.s", told=faulty_line(1, "A8 byte not ASCII: 0x01 at column 4"))
+    yield from (fails("asm a.s out.img", [text_of(lines)], "open a.s", underlined(fault, lines, words)) for fault, lines,
+                words in UNDERLINED)
+    yield fails("asm a.s out.img", ['a.s "nop\\x01\\n"'], "open a.s", faulty_line(1, "A8 byte not ASCII: 0x01 at column 4"))
     yield "# carets stand right after a long name and a short one, and where the line's number has two digits"
     for name in ("longer-name.s", "b.s"):
-        yield case(f"asm {name} out.img", [f'{name} "\\tj\\tlop\\n"'], 3, f"open {name}",
-                   told=f"cherisim: line 1: {UNKNOWN}\n  {name}:1: \tj\tlop\n{' ' * (len(name) + 6)}\t \t^^^\n")
+        yield fails(f"asm {name} out.img", [f'{name} "\\tj\\tlop\\n"'], f"open {name}",
+                    f"cherisim: line 1: {UNKNOWN}\n  {name}:1: \tj\tlop\n{' ' * (len(name) + 6)}\t \t^^^\n")
     tenth = "nop\\n" * 9 + "foo\\n"
-    yield case("asm a.s out.img", [f'a.s "{tenth}"'], 3, "open a.s",
-               told=f"cherisim: line 10: {NO_MNEMONIC}\n  a.s:10: foo\n          ^^^\n" + hinted("foo"))
+    yield fails("asm a.s out.img", [f'a.s "{tenth}"'], "open a.s", f"cherisim: line 10: {NO_MNEMONIC}\n  a.s:10: foo\n          ^^^\n"
+                + hinted("foo"))
     yield "# --quiet leaves the fault's text alone"
-    yield case("asm a.s out.img --quiet", ['a.s "addi a0, a0, 4096\\n"'], 3, "open a.s", told=f"cherisim: line 1: {OUT_OF_RANGE}\n")
-    yield case("asm --quiet a.s out.img", ['a.s "nop\\x01\\n"'], 3, "open a.s", told="cherisim: line 1: A8 byte not ASCII\n")
+    yield fails("asm a.s out.img --quiet", ['a.s "addi a0, a0, 4096\\n"'], "open a.s", f"cherisim: line 1: {OUT_OF_RANGE}\n")
+    yield fails("asm --quiet a.s out.img", ['a.s "nop\\x01\\n"'], "open a.s", "cherisim: line 1: A8 byte not ASCII\n")
     yield case("asm a.s out.img", ['a.s "addi a0, a0, 4096\\n"', "errors 0"], 3, "open a.s")
     for command in ("asm none out.img", "image none out.img", "dis none", "debug none", "run none 1", "audit none 1"):
-        yield case(f"{command} --quiet", [], 3, "open none", told="cherisim: file none\n")
+        yield fails(f"{command} --quiet", [], "open none", "cherisim: file none\n")
     for command in ("dis bad.img", "debug bad.img", "run bad.img 1", "audit bad.img 1"):
-        yield case(f"{command} --quiet", [BAD], 3, "open bad.img", told="cherisim: L1 short header\n")
+        yield fails(f"{command} --quiet", [BAD], "open bad.img", "cherisim: L1 short header\n")
     for command in ("dis first.img", "debug first.img"):
-        yield case(f"{command} --symbols t --quiet", [FILE, 't "x\\n"'], 3, "open first.img, open t",
-                   told="cherisim: line 1: no address and label\n")
+        yield fails(f"{command} --symbols t --quiet", [FILE, 't "x\\n"'], "open first.img, open t",
+                    "cherisim: line 1: no address and label\n")
 
 
 def later(*faults, name="a.s"):
@@ -289,21 +283,20 @@ FURTHER = [
 
 def further_faults():
     yield "# what is wrong with later lines by themselves stands after that, each on a line of its own"
-    yield from (case("asm a.s out.img", [text_of(lines)], 3, "open a.s", told=underlined(fault, lines, words) + later(*faults))
-                for fault, lines, words, faults in FURTHER)
+    yield from (fails("asm a.s out.img", [text_of(lines)], "open a.s", underlined(fault, lines, words) + later(*faults)) for fault, lines,
+                words, faults in FURTHER)
     yield "# the file's name stands before each, and the last line may lack its line feed"
     name = "longer-name.s"
-    yield case(f"asm {name} out.img", [f'{name} "nop\\nfoo\\nnop\\nbar"'], 3, f"open {name}",
-               told=f"cherisim: line 2: {NO_MNEMONIC}\n  {name}:2: foo\n{' ' * (len(name) + 6)}^^^\n"
-               + hinted("foo") + later((4, f"{NO_MNEMONIC}: {COLON}: bar:"), name=name))
+    yield fails(f"asm {name} out.img", [f'{name} "nop\\nfoo\\nnop\\nbar"'], f"open {name}",
+                f"cherisim: line 2: {NO_MNEMONIC}\n  {name}:2: foo\n{' ' * (len(name) + 6)}^^^\n" + hinted("foo")
+                + later((4, f"{NO_MNEMONIC}: {COLON}: bar:"), name=name))
     yield "# twenty of them, and how many there are besides"
     for count, more in ((21, ""), (22, "  and 1 more\n"), (23, "  and 2 more\n"), (141, "  and 120 more\n")):
         twenty = later(*((number, f"{NO_MNEMONIC}: {COLON}: frob:") for number in range(2, 22)))
-        yield case("asm a.s out.img", [text_of(["frob"] * count)], 3, "open a.s",
-                   told=underlined(NO_MNEMONIC, ["«frob»"], "") + twenty + more)
+        yield fails("asm a.s out.img", [text_of(["frob"] * count)], "open a.s", underlined(NO_MNEMONIC, ["«frob»"], "") + twenty + more)
     yield "# --quiet leaves them out too"
-    yield from (case("asm a.s out.img --quiet", [text_of(lines)], 3, "open a.s", told=f"cherisim: line 1: {fault}\n")
-                for fault, lines in ((NO_MNEMONIC, ["frob", "add a0"]), (UNKNOWN, ["j x"] + ["frob"] * 30)))
+    yield from (fails("asm a.s out.img --quiet", [text_of(lines)], "open a.s", f"cherisim: line 1: {fault}\n") for fault,
+                lines in ((NO_MNEMONIC, ["frob", "add a0"]), (UNKNOWN, ["j x"] + ["frob"] * 30)))
 
 
 def header_lines(version, pages, entry, mode, capabilities=()):
@@ -328,69 +321,61 @@ def headed():
     yield case("dis --header first.img --symbols t", [FILE, 't "000000008000000C halt\\n"'], 0, "open first.img, open t",
                "".join([front, *lines[:3], "halt:\n", *lines[3:]]))
     yield "# nothing is sent of a file that is no image, nor where a table is refused; and an output may fail among these lines"
-    yield case("dis bad.img --header", [BAD], 3, "open bad.img", told=NO_IMAGE)
-    yield case("dis first.img --header --symbols t", [FILE, 't "halt"'], 3, "open first.img, open t",
-               told="cherisim: line 1: no address and label\n  t:1\n")
-    yield from (case("dis first.img --header", [FILE, f"output {call}"], 3, "open first.img", (front + LISTED)[:call],
-                     "cherisim: write failed\n") for call in (0, 1, len(front) - 1, len(front), len(front + LISTED) - 1))
+    yield fails("dis bad.img --header", [BAD], "open bad.img", NO_IMAGE)
+    yield fails("dis first.img --header --symbols t", [FILE, 't "halt"'], "open first.img, open t", no_label("t", 1))
+    yield from (fails("dis first.img --header", [FILE, f"output {call}"], "open first.img", UNWRITTEN, (front + LISTED)[:call])
+                for call in (0, 1, len(front) - 1, len(front), len(front + LISTED) - 1))
 
 
 def faults():
     yield "# another fault: status 3, with its text"
     for command in ("asm none out.img", "run none 5", "dis none", "debug none"):
-        yield case(command, [FILE], 3, "open none", told="cherisim: file none\n  No such file or directory\n")
+        yield fails(command, [FILE], "open none", missing("none"))
     for command in ("run bad.img 5", "dis bad.img", "debug bad.img"):
-        yield case(command, [BAD], 3, "open bad.img", told=NO_IMAGE)
-    yield case("asm a.s out.img", ['a.s "nop\\nfrob a0\\n"'], 3, "open a.s", told=underlined(NO_MNEMONIC, ["nop", "«frob» a0"], ""))
-    yield case("asm a.s out.img", [TEXT, "full"], 3, "open a.s, make out.img", told="cherisim: file out.img\n  No such file or directory\n")
-    yield case("run first.img 5 --input none", [FILE], 3, "open first.img, open none",
-               told="cherisim: file none\n  No such file or directory\n")
+        yield fails(command, [BAD], "open bad.img", NO_IMAGE)
+    yield fails("asm a.s out.img", ['a.s "nop\\nfrob a0\\n"'], "open a.s", underlined(NO_MNEMONIC, ["nop", "«frob» a0"], ""))
+    yield fails("asm a.s out.img", [TEXT, "full"], "open a.s, make out.img", missing("out.img"))
+    yield fails("run first.img 5 --input none", [FILE], "open first.img, open none", missing("none"))
     yield "# the faults in order: the command line, the file that is read first, what it says, the other file, the work"
     yield refused("run none 0 --input none", [])
     yield refused("asm none", [])
-    yield case("run none 5 --input nowhere", [], 3, "open none", told="cherisim: file none\n  No such file or directory\n")
-    yield case("run bad.img 5 --input none", [BAD], 3, "open bad.img", told=NO_IMAGE)
-    yield case("asm none out.img", ["full"], 3, "open none", told="cherisim: file none\n  No such file or directory\n")
-    yield case("asm a.s out.img", ['a.s "frob\\nnop\\n"', "full"], 3, "open a.s",
-               told=underlined(NO_MNEMONIC, ["«frob»"], ""))
-    yield case("run first.img 5 --input none", [FILE, "output 0"], 3, "open first.img, open none",
-               told="cherisim: file none\n  No such file or directory\n")
+    yield fails("run none 5 --input nowhere", [], "open none", missing("none"))
+    yield fails("run bad.img 5 --input none", [BAD], "open bad.img", NO_IMAGE)
+    yield fails("asm none out.img", ["full"], "open none", missing("none"))
+    yield fails("asm a.s out.img", ['a.s "frob\\nnop\\n"', "full"], "open a.s", underlined(NO_MNEMONIC, ["«frob»"], ""))
+    yield fails("run first.img 5 --input none", [FILE, "output 0"], "open first.img, open none", missing("none"))
 
 
 def failing():
     yield "# calls of files and streams that fail, by their numbers from 0"
-    yield from (case("asm a.s out.img", [TEXT.replace("a.s", f"a.s {call}", 1)], 3, "open a.s",
-                    told="cherisim: read failed\n  a.s: Broken pipe\n")
-                for call in (0, 1, 40))
+    yield from (fails("asm a.s out.img", [TEXT.replace("a.s", f"a.s {call}", 1)], "open a.s", unread("a.s")) for call in (0, 1, 40))
     for command in ("run", "dis", "debug"):
         words = f"{command} first.img" + (" 5" if command == "run" else "")
-        yield from (case(words, [FILE.replace("first.img", f"first.img {call}", 1)], 3, "open first.img",
-                         told="cherisim: L10 device failed\n  first.img\n") for call in (0, 31, 32, 67, 68))
+        yield from (fails(words, [FILE.replace("first.img", f"first.img {call}", 1)], "open first.img",
+                          "cherisim: L10 device failed\n  first.img\n") for call in (0, 31, 32, 67, 68))
         yield case(words, [FILE.replace("first.img", "first.img 69", 1), 'input "quit\\n"'], 0, "open first.img",
                    {"run": b"A", "dis": LISTED, "debug": b""}[command])
-    yield case("run first.img 5 --input keys", [FILE, 'keys 0 "AB"'], 3, "open first.img, open keys",
-               told="cherisim: read failed\n  keys: Broken pipe\n")
+    yield fails("run first.img 5 --input keys", [FILE, 'keys 0 "AB"'], "open first.img, open keys", unread("keys"))
     yield "# no more is read of an input than comes before a step"
     yield case("run first.img 5 --input keys", [FILE, 'keys 1 "AB"'], 0, "open first.img, open keys", b"A")
-    yield case("run first.img 5 --input keys --gap 4", [FILE, 'keys 1 "AB"'], 3, "open first.img, open keys",
-               told="cherisim: read failed\n  keys: Broken pipe\n")
+    yield fails("run first.img 5 --input keys --gap 4", [FILE, 'keys 1 "AB"'], "open first.img, open keys", unread("keys"))
     yield case("run first.img 5 --input keys --gap 4", [FILE, 'keys 2 "ABC"'], 0, "open first.img, open keys", b"A")
     yield "# a directory where a file is named"
     for words, opened in (("asm d out.img", "open d"), ("run d 5", "open d"), ("dis d", "open d"), ("debug d", "open d"),
                           ("image d out.img", "open d"), ("asm a.s d", "open a.s, make d"),
                            ("run first.img 5 --input d", "open first.img, open d")):
-        yield case(words, [FILE, TEXT, "directory d"], 3, opened, told="cherisim: file d\n  Is a directory\n")
-    yield from (case("asm a.s out.img", [TEXT, f"made {call}"], 3, "open a.s, make out.img",
-                     told="cherisim: L10 device failed\n  out.img: the file is cut short\n", made=FIRST[:call]) for call in (0, 1, 48, 67))
+        yield fails(words, [FILE, TEXT, "directory d"], opened, is_directory("d"))
+    yield from (fails("asm a.s out.img", [TEXT, f"made {call}"], "open a.s, make out.img", cut_short("out.img"), made=FIRST[:call])
+                for call in (0, 1, 48, 67))
     yield case("asm a.s out.img", [TEXT, "made 68"], 0, "open a.s, make out.img", made=FIRST)
-    yield case("run first.img 5", [FILE, "output 0"], 3, "open first.img", told="cherisim: write failed\n")
+    yield fails("run first.img 5", [FILE, "output 0"], "open first.img", UNWRITTEN)
     yield case("run first.img 5", [FILE, "output 1"], 0, "open first.img", b"A")
-    yield case("", ["output 0"], 3, told="cherisim: write failed\n")
-    yield from (case("dis first.img", [FILE, f"output {call}"], 3, "open first.img", LISTED[:call], "cherisim: write failed\n")
+    yield case("", ["output 0"], 3, told=UNWRITTEN)
+    yield from (fails("dis first.img", [FILE, f"output {call}"], "open first.img", UNWRITTEN, LISTED[:call])
                 for call in (0, 1, 42, len(LISTED) - 1))
-    yield from (case("debug first.img", [FILE, 'input "step 5\\nquit\\n"', f"output {call}"], 3, "open first.img", REPLY[:call],
-                     "cherisim: write failed\n") for call in (0, 1, len(REPLY) - 1))
-    yield from (case("debug first.img", [FILE, f'input {call} "step 5\\nquit\\n"'], 3, "open first.img", sent, "cherisim: read failed\n")
+    yield from (fails("debug first.img", [FILE, 'input "step 5\\nquit\\n"', f"output {call}"], "open first.img", UNWRITTEN, REPLY[:call])
+                for call in (0, 1, len(REPLY) - 1))
+    yield from (fails("debug first.img", [FILE, f'input {call} "step 5\\nquit\\n"'], "open first.img", "cherisim: read failed\n", sent)
                 for call, sent in ((0, ""), (6, ""), (7, REPLY), (11, REPLY)))
     yield "# an output that nobody reads any more is no failure: nothing is told of it, and the status is that of the whole"
     for words, parts, status, opened, sent, told in (
@@ -402,10 +387,10 @@ def failing():
                     for call in sorted({0, 1, len(sent) - 1}))
     yield case("--version", ["closed 0"], 0)
     yield case("--help", ["closed 0"], 2)
-    yield case("dis bad.img", [BAD, "closed 0"], 3, "open bad.img", told=NO_IMAGE)
+    yield fails("dis bad.img", [BAD, "closed 0"], "open bad.img", NO_IMAGE)
     yield "# where nothing can be told, the status is the same"
     yield case("run first.img 4", [FILE, "errors 0"], 1, "open first.img", b"A")
-    yield case("dis none", ["errors 9"], 3, "open none", told="cherisim:")
+    yield fails("dis none", ["errors 9"], "open none", "cherisim:")
 
 
 def read_whole():
@@ -413,7 +398,7 @@ def read_whole():
     yield "# a text is read to its end before it is looked at: a call that fails is told, and no line of it"
     blanks = " " * 300
     for call, text in ((5, "nop\\n\\x7f\\nnop\\n"), (261, f"nop\\n{' ' * 256}\\nnop\\n"), (5, "j x\\n\\x7f\\nx: nop\\n")):
-        yield case("asm a.s out.img", [f'a.s {call} "{text}"'], 3, "open a.s", told="cherisim: read failed\n  a.s: Broken pipe\n")
+        yield fails("asm a.s out.img", [f'a.s {call} "{text}"'], "open a.s", unread("a.s"))
     yield "# its first faulty line is told, where its bytes alone make it one too"
     for number, text, told in ((2, "nop\\n\\x7f\\nnop\\n", "A8 byte not ASCII: 0x7f at column 1"),
                                (2, f"nop\\n{' ' * 256}\\nnop\\n", "A9 line too long: 256 bytes"),
@@ -421,26 +406,23 @@ def read_whole():
                                (2, f"j x\\n{blanks}\\nx: nop\\n", "A9 line too long: 300 bytes"),
                                (2, f"nop\\n{blanks}", "A9 line too long: 300 bytes"),
                                (2, f"nop\\n{blanks}\\x7f\\xff\\n", "A8 byte not ASCII: 0x7f at column 301")):
-        yield case("asm a.s out.img", [f'a.s "{text}"'], 3, "open a.s", told=faulty_line(number, told))
-    yield case("asm a.s out.img", [f'a.s "nop\\nx\\x01{blanks}\\n\\x7f"'], 3, "open a.s",
-               told=faulty_line(2, "A8 byte not ASCII: 0x01 at column 2") + later((3, "A8 byte not ASCII")))
+        yield fails("asm a.s out.img", [f'a.s "{text}"'], "open a.s", faulty_line(number, told))
+    yield fails("asm a.s out.img", [f'a.s "nop\\nx\\x01{blanks}\\n\\x7f"'], "open a.s",
+                faulty_line(2, "A8 byte not ASCII: 0x01 at column 2") + later((3, "A8 byte not ASCII")))
     for fault, lines, rest, besides in ((UNKNOWN, ["j «x»"], "\\x7f\\nnop\\n", "A8 byte not ASCII"),
                                         (NO_MNEMONIC, ["«frob»"], "\\x7f\\nnop\\n", "A8 byte not ASCII"),
                                         (UNKNOWN, ["j «x»"], f"{blanks}\\nnop\\n", "A9 line too long")):
-        yield case("asm a.s out.img", [text_of(lines)[:-1] + f'{rest}"'], 3, "open a.s",
-                   told=underlined(fault, lines, "") + later((2, besides)))
+        yield fails("asm a.s out.img", [text_of(lines)[:-1] + f'{rest}"'], "open a.s", underlined(fault, lines, "") + later((2, besides)))
     yield "# so is a table"
     for call, text, line in ((21, "0000000080000000 x\\nx\\n0000000080000000 y\\n", 2), (19, "start 0000000080000000\\n", 1)):
-        yield case("dis first.img --symbols t", [FILE, f't "{text}"'], 3, "open first.img, open t",
-                   told=f"cherisim: line {line}: no address and label\n  t:{line}\n")
-        yield case("dis first.img --symbols t", [FILE, f't {call} "{text}"'], 3, "open first.img, open t",
-                   told="cherisim: read failed\n  t: Broken pipe\n")
+        yield fails("dis first.img --symbols t", [FILE, f't "{text}"'], "open first.img, open t", no_label("t", line))
+        yield fails("dis first.img --symbols t", [FILE, f't {call} "{text}"'], "open first.img, open t", unread("t"))
     yield "# what has no end is too long; of what is typed no more is read than can come"
     long = "cherisim: text too long\n  /dev/zero: more than 256 MiB\n"
-    yield case("asm /dev/zero out.img", [], 3, "open /dev/zero", told=long)
+    yield fails("asm /dev/zero out.img", [], "open /dev/zero", long)
     for words in ("dis first.img --symbols", "debug first.img --symbols", "debug first.img --input",
                   "run first.img 100000000 --times 3 --gap 1 --input"):
-        yield case(f"{words} /dev/zero", [FILE], 3, "open first.img, open /dev/zero", told=long)
+        yield fails(f"{words} /dev/zero", [FILE], "open first.img, open /dev/zero", long)
     yield case("run first.img 5 --gap 1 --input /dev/zero", [FILE], 0, "open first.img, open /dev/zero", b"A")
 
 

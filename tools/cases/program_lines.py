@@ -88,6 +88,46 @@ def refused(words, parts):
     return case(words, parts, 2, told=TEXT_OF_CLAP)
 
 
+def fails(words, parts, opened, told, sent=b"", made=b""):
+    """A command line that ends with a fault."""
+    return case(words, parts, 3, opened, sent, told, made)
+
+
+# ---- what is told
+
+UNWRITTEN = "cherisim: write failed\n"
+NOT_HALTED = "cherisim: not halted\n"
+
+
+def missing(name):
+    return f"cherisim: file {name}\n  No such file or directory\n"
+
+
+def is_directory(name):
+    return f"cherisim: file {name}\n  Is a directory\n"
+
+
+def unread(name):
+    return f"cherisim: read failed\n  {name}: Broken pipe\n"
+
+
+def cut_short(name):
+    return f"cherisim: L10 device failed\n  {name}: the file is cut short\n"
+
+
+def no_label(name, line):
+    """Of a table of labels, that a line has no address and label."""
+    return f"cherisim: line {line}: no address and label\n  {name}:{line}\n"
+
+
+def stood(steps, pcc, more=""):
+    """Of a run that didn't halt, where it stood after so many steps, and more."""
+    return f"{NOT_HALTED}cherisim: steps {steps}, pcc {pcc:016x}{more}\n"
+
+
+# ---- parts of these
+
+
 def joined(lines):
     return "".join(f"{line}\n" for line in lines)
 

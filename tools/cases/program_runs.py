@@ -1,8 +1,8 @@
 """Runs by the program: their statuses and ends, traps, traces, and labels after addresses."""
 
 from cases.explanations import access, begun, fetch, number as held_number, reply, trapped as trap_effect
-from cases.program_lines import BAD, FILE, LISTED, NO_IMAGE, REPLY, SENDS_A, TEXT, TEXT_OF_CLAP, TRACE
-from cases.program_lines import case, file_of, profiled, refused, table, traced
+from cases.program_lines import BAD, FILE, LISTED, NO_IMAGE, NOT_HALTED, REPLY, SENDS_A, TEXT, TEXT_OF_CLAP, TRACE, UNWRITTEN, case
+from cases.program_lines import cut_short, fails, file_of, is_directory, missing, no_label, profiled, refused, stood, table, traced
 from cases.quoting import quoted
 from cases.sessions import ECHO_THREE
 from model.devices import RAM
@@ -39,9 +39,8 @@ def ends():
     yield case("run echo.img 22 --input keys --gap 1", [ECHO, 'keys "ABC"'], 0, "open echo.img, open keys", b"ABC")
     yield case("run echo.img 22 --input keys --gap 7", [ECHO, 'keys "ABC"'], 0, "open echo.img, open keys", b"ABC")
     yield case("run echo.img 22 --input keys --gap 1", [ECHO, 'keys "AB"', 'input "C"'], 1, "open echo.img, open keys", b"AB",
-               "cherisim: not halted\ncherisim: steps 22, pcc 0000000080000008\n")
-    yield case("run echo.img 21 --input keys --gap 1", [ECHO, 'keys "ABC"'], 1, "open echo.img, open keys", b"ABC",
-               "cherisim: not halted\ncherisim: steps 21, pcc 0000000080000024\n")
+               stood(22, RAM + 8))
+    yield case("run echo.img 21 --input keys --gap 1", [ECHO, 'keys "ABC"'], 1, "open echo.img, open keys", b"ABC", stood(21, RAM + 36))
     time = file_of("time.img", TELLS_TIME)
     yield case("run time.img 7 --tick 1", [time], 0, "open time.img", b"B")
     yield case("run time.img 7 --tick 0", [time], 0, "open time.img", b"A")
@@ -49,8 +48,8 @@ def ends():
 
 def ended_otherwise():
     yield "# a run that ended otherwise: status 1"
-    yield case("run first.img 4", [FILE], 1, "open first.img", b"A", "cherisim: not halted\ncherisim: steps 4, pcc 0000000080000010\n")
-    yield case("run first.img 4 --quiet", [FILE], 1, "open first.img", b"A", "cherisim: not halted\n")
+    yield case("run first.img 4", [FILE], 1, "open first.img", b"A", stood(4, RAM + 16))
+    yield case("run first.img 4 --quiet", [FILE], 1, "open first.img", b"A", NOT_HALTED)
     seven = file_of("seven.img", HALTS_WITH_7)
     yield case("run seven.img 3", [seven], 1, "open seven.img", b"", "cherisim: halted with 7\ncherisim: steps 3, pcc 000000008000000c\n")
     yield case("run seven.img 9", [seven], 1, "open seven.img", b"", "cherisim: halted with 7\ncherisim: steps 3, pcc 000000008000000c\n")
@@ -66,11 +65,10 @@ def repeated():
     yield "# as many steps so many times over"
     yield case("run first.img 1 --times 5", [FILE], 0, "open first.img", b"A")
     yield case("run first.img 100000000 --times 1000000", [FILE], 0, "open first.img", b"A")
-    yield case("run first.img 2 --times 2", [FILE], 1, "open first.img", b"A",
-               "cherisim: not halted\ncherisim: steps 4, pcc 0000000080000010\n")
+    yield case("run first.img 2 --times 2", [FILE], 1, "open first.img", b"A", stood(4, RAM + 16))
     yield case("run echo.img 11 --times 2 --input keys --gap 7", [ECHO, 'keys "ABC"'], 0, "open echo.img, open keys", b"ABC")
     yield case("run echo.img 3 --times 7 --input keys --gap 1", [ECHO, 'keys "ABC"'], 1, "open echo.img, open keys", b"ABC",
-               "cherisim: not halted\ncherisim: steps 21, pcc 0000000080000024\n")
+               stood(21, RAM + 36))
     yield case("run first.img 1 --times 5 --trace t", [FILE], 0, "open first.img, make t", b"A", made=TRACE.encode())
 
 
@@ -137,7 +135,7 @@ def trapped():
     yield "# a trace changes nothing of it, and --quiet leaves it out"
     one, ecall = traced("ecall", 1), file_of("trap.img", "ecall")
     yield case("run trap.img 1 --trace t", [ecall], 1, "open trap.img, make t", b"", told(1, nowhere, "first", call, 0, 1), one.encode())
-    yield case("run trap.img 1 --quiet", [ecall], 1, "open trap.img", b"", "cherisim: not halted\n")
+    yield case("run trap.img 1 --quiet", [ecall], 1, "open trap.img", b"", NOT_HALTED)
     yield "# a line that can't be written takes the others with it"
     whole = told(1, nowhere, "first", call, 0, 1)
     for count in (0, 1, whole.index("\n") + 1, len(whole) - 1):
@@ -222,8 +220,7 @@ def stopped():
     yield "# a run that is to stop before a trap, and meets none, is as any other"
     for why in ("--why", "--why=all"):
         yield case(f"run first.img 9 {why}", [FILE], 0, "open first.img", b"A")
-        yield case(f"run first.img 4 {why}", [FILE], 1, "open first.img", b"A",
-                   "cherisim: not halted\ncherisim: steps 4, pcc 0000000080000010\n")
+        yield case(f"run first.img 4 {why}", [FILE], 1, "open first.img", b"A", stood(4, RAM + 16))
     yield case("run echo.img 22 --input keys --gap 7 --why=all", [ECHO, 'keys "ABC"'], 0, "open echo.img, open keys", b"ABC")
     yield "# before its first step: the trap's entry can't be fetched"
     yield from stops(" --why", 9, "ecall", 0, RAM, begun(RAM, "00000073 ecall"), ecall)
@@ -253,8 +250,8 @@ def stopped():
                      parts=['keys "AB"'], opened=", open keys")
     yield "# --quiet leaves the texts out, and a trace has the lines of the steps before it"
     ecalls = file_of("trap.img", "ecall")
-    yield case("run trap.img 9 --why --quiet", [ecalls], 1, "open trap.img", b"", "cherisim: not halted\n")
-    yield case("run trap.img 9 --why --quiet --trace t", [ecalls], 1, "open trap.img, make t", b"", "cherisim: not halted\n")
+    yield case("run trap.img 9 --why --quiet", [ecalls], 1, "open trap.img", b"", NOT_HALTED)
+    yield case("run trap.img 9 --why --quiet --trace t", [ecalls], 1, "open trap.img, make t", b"", NOT_HALTED)
     yield from stops(" --why=all --trace t", 9, "ecall", 1, 0, fetch(0, False), nowhere, made=traced("ecall", 1).encode(),
                      opened=", make t")
 
@@ -279,7 +276,7 @@ def not_begun():
     yield "# help is sent"
     for words in ("--help", "help", "run --help", "help image"):
         yield case(words, [FILE, TEXT], 2, sent=TEXT_OF_CLAP)
-    yield case("--help", ["output 0"], 3, told="cherisim: write failed\n")
+    yield case("--help", ["output 0"], 3, told=UNWRITTEN)
 
 
 # asks for the timer's interrupt, which is taken in place of the sixth step
@@ -293,11 +290,11 @@ def traces():
         yield case(f"run first.img {steps} --trace t", [FILE], 0, opened, b"A", made=TRACE.encode())
     three = "".join(TRACE.splitlines(True)[:3])
     yield case("run first.img 3 --trace t --input keys --quiet", [FILE, 'keys ""'], 1, "open first.img, open keys, make t", b"A",
-               "cherisim: not halted\n", three.encode())
+               NOT_HALTED, three.encode())
     yield "# a trap, a jump to where nothing can be fetched, and an interrupt"
     for name, text, steps in (("trap.img", LOADS_BY_NULL, 2), ("time.img", IS_INTERRUPTED, 6)):
-        yield case(f"run {name} {steps} --quiet --trace t", [file_of(name, text)], 1, f"open {name}, make t", b"",
-                   "cherisim: not halted\n", traced(text, steps).encode())
+        yield case(f"run {name} {steps} --quiet --trace t", [file_of(name, text)], 1, f"open {name}, make t", b"", NOT_HALTED,
+                   traced(text, steps).encode())
     yield "# of its lines those from a step on, the last so many, and the last so many of those from a step on"
     lines = TRACE.splitlines(True)
     for options, kept in (("--trace-from 1", lines), ("--trace-from 3", lines[2:]), ("--trace-from 5", lines[4:]),
@@ -306,27 +303,23 @@ def traces():
                           ("--trace-from 2 --trace-last 3", lines[2:]), ("--trace-from 4 --trace-last 3", lines[3:]),
                           ("--trace-from 6 --trace-last 3", [])):
         yield case(f"run first.img 9 --trace t {options}", [FILE], 0, opened, b"A", made="".join(kept).encode())
-    yield case("run first.img 4 --trace t --trace-last 2 --quiet", [FILE], 1, opened, b"A", "cherisim: not halted\n",
-               "".join(lines[2:4]).encode())
+    yield case("run first.img 4 --trace t --trace-last 2 --quiet", [FILE], 1, opened, b"A", NOT_HALTED, "".join(lines[2:4]).encode())
     yield "# of a run that stops before a trap, the last before it"
     call = traced(SENDS_AND_CALLS, 3, b"A")
     for options, kept in (("", 3), (" --trace-last 2", 2), (" --trace-from 3", 1), (" --trace-from 4", 0)):
-        yield case(f"run call.img 9 --input keys --why --quiet --trace t{options}",
-                   [file_of("call.img", SENDS_AND_CALLS), 'keys "A"'], 1, "open call.img, open keys, make t", b"A",
-                   "cherisim: not halted\n", "".join(call.splitlines(True)[3 - kept:]).encode())
+        yield case(f"run call.img 9 --input keys --why --quiet --trace t{options}", [file_of("call.img", SENDS_AND_CALLS), 'keys "A"'], 1,
+                   "open call.img, open keys, make t", b"A", NOT_HALTED, "".join(call.splitlines(True)[3 - kept:]).encode())
     yield "# a trace that can't be made, or written to its end: it is written in blocks, so the run is done by then"
-    yield case("run first.img 5 --trace t", [FILE, "full"], 3, opened, told="cherisim: file t\n  No such file or directory\n")
-    yield case("run first.img 5 --trace d", [FILE, "directory d"], 3, "open first.img, make d", told="cherisim: file d\n  Is a directory\n")
+    yield fails("run first.img 5 --trace t", [FILE, "full"], opened, missing("t"))
+    yield fails("run first.img 5 --trace d", [FILE, "directory d"], "open first.img, make d", is_directory("d"))
     for call in (0, 1, len(three) - 1, len(three), len(TRACE) - 1):
-        yield case("run first.img 5 --trace t", [FILE, f"made {call}"], 3, opened, b"A",
-                   "cherisim: L10 device failed\n  t: the file is cut short\n", TRACE[:call].encode())
+        yield fails("run first.img 5 --trace t", [FILE, f"made {call}"], opened, cut_short("t"), b"A", made=TRACE[:call].encode())
     yield case("run first.img 5 --trace t", [FILE, f"made {len(TRACE)}"], 0, opened, b"A", made=TRACE.encode())
     yield "# where a byte can't be written, the line of the step that sent it is"
-    yield case("run first.img 5 --trace t", [FILE, "output 0"], 3, opened, told="cherisim: write failed\n", made=three.encode())
+    yield fails("run first.img 5 --trace t", [FILE, "output 0"], opened, UNWRITTEN, made=three.encode())
     yield "# nothing is made where the image or the input can't be read"
-    yield case("run none 5 --trace t", [], 3, "open none", told="cherisim: file none\n  No such file or directory\n")
-    yield case("run first.img 5 --trace t --input none", [FILE], 3, "open first.img, open none",
-               told="cherisim: file none\n  No such file or directory\n")
+    yield fails("run none 5 --trace t", [], "open none", missing("none"))
+    yield fails("run first.img 5 --trace t --input none", [FILE], "open first.img, open none", missing("none"))
     for words in ("run first.img 5 --trace first.img", "run first.img 5 --input keys --trace keys", "run first.img 5 --trace"):
         yield refused(words, [FILE, 'keys "A"'])
 
@@ -377,24 +370,22 @@ def profiles():
                       keys=b"A", parts=['keys "A"'], opened=", open keys, make p")
     yield from counts("--why=all ", 9, [], file_of("trap.img", LOADS_BY_NULL), LOADS_BY_NULL, done=0)
     yield "# with a trace: the profile is made before, which is left empty where there is no room for a second file"
-    yield case("run first.img 9 --profile p --trace t", [FILE], 3, "open first.img, make p, make t",
-               told="cherisim: file t\n  No such file or directory\n")
+    yield fails("run first.img 9 --profile p --trace t", [FILE], "open first.img, make p, make t", missing("t"))
     yield "# of a text its own labels"
     text = 'down.s "' + COUNTS_DOWN.replace("\n", "\\n") + '"'
     yield case("go down.s --profile p", [text], 0, "open down.s, make p", made=profiled(COUNTS_DOWN, 99, [loop, less]).encode())
-    yield case("go down.s --profile p --steps 3 --times 4 --quiet", [text], 1, "open down.s, make p", b"", "cherisim: not halted\n",
+    yield case("go down.s --profile p --steps 3 --times 4 --quiet", [text], 1, "open down.s, make p", b"", NOT_HALTED,
                profiled(COUNTS_DOWN, 12, [loop, less]).encode())
     yield "# a profile that can't be made, before anything is done, or written to its end"
-    yield case("run first.img 5 --profile p", [FILE, "full"], 3, "open first.img, make p", told="cherisim: file p\n  No such file or directory\n")
-    yield case("run first.img 5 --profile d --trace t", [FILE, "directory d"], 3, "open first.img, make d",
-               told="cherisim: file d\n  Is a directory\n")
+    yield fails("run first.img 5 --profile p", [FILE, "full"], "open first.img, make p", missing("p"))
+    yield fails("run first.img 5 --profile d --trace t", [FILE, "directory d"], "open first.img, make d", is_directory("d"))
     whole = profiled(SENDS_A, 5).encode()
     for call in (0, 1, len(whole) - 1):
-        yield case("run first.img 5 --profile p", [FILE, f"made {call}"], 3, "open first.img, make p", b"A",
-                   "cherisim: L10 device failed\n  p: the file is cut short\n", whole[:call])
+        yield fails("run first.img 5 --profile p", [FILE, f"made {call}"], "open first.img, make p", cut_short("p"), b"A",
+                    made=whole[:call])
     yield case("run first.img 5 --profile p", [FILE, f"made {len(whole)}"], 0, "open first.img, make p", b"A", made=whole)
     yield "# where a byte can't be written, it stays empty"
-    yield case("run first.img 5 --profile p", [FILE, "output 0"], 3, "open first.img, make p", told="cherisim: write failed\n")
+    yield fails("run first.img 5 --profile p", [FILE, "output 0"], "open first.img, make p", UNWRITTEN)
     yield "# it is no file that is read, and not the trace, by whichever name"
     for words in ("run first.img 5 --profile first.img", "run first.img 5 --profile ./first.img", "run first.img 5 --profile t --trace t",
                   "run first.img 5 --profile t --trace ./t", "run first.img 5 --input keys --profile ./keys",
@@ -416,28 +407,27 @@ def labelled_runs():
 
     yield "# with a table of labels one stands after each address of a trace and of the end; of several at one address the first"
     four = with_names(traced(SENDS_A, 4), labels)
-    yield from runs("4 --trace t", labels, b"A", f"{started} 4, pcc 0000000080000010 <halt+4>\n", made=four.encode(), opened=", make t")
-    yield from runs("4 --trace t --trace-last 1", labels, b"A", f"{started} 4, pcc 0000000080000010 <halt+4>\n",
-                    made=four.splitlines(True)[3].encode(), opened=", make t")
-    yield from runs("3", labels, b"A", f"{started} 3, pcc 000000008000000c <halt>\n")
-    yield from runs("3 --quiet", labels, b"A", "cherisim: not halted\n")
+    yield from runs("4 --trace t", labels, b"A", stood(4, RAM + 16, " <halt+4>"), made=four.encode(), opened=", make t")
+    yield from runs("4 --trace t --trace-last 1", labels, b"A", stood(4, RAM + 16, " <halt+4>"), made=four.splitlines(True)[3].encode(),
+                    opened=", make t")
+    yield from runs("3", labels, b"A", stood(3, RAM + 12, " <halt>"))
+    yield from runs("3 --quiet", labels, b"A", NOT_HALTED)
     yield case("run first.img 5 --symbols s", [FILE, table("s", labels)], 0, "open first.img, open s", b"A")
     yield "# where a jump leads"
     # over three words, and back
     jumps = "j .+16; nop; nop; nop; j .-8"
-    yield from runs("2 --trace t", labels, b"", f"{started} 2, pcc 0000000080000008 <start+8>\n", given=file_of("jumps.img", jumps),
+    yield from runs("2 --trace t", labels, b"", stood(2, RAM + 8, " <start+8>"), given=file_of("jumps.img", jumps),
                     made=with_names(traced(jumps, 2), labels).encode(), opened=", make t")
     yield "# 4095 bytes after a label it stands, 4096 bytes after it and before the first it doesn't"
     for steps, place, shown in ((0, RAM - 4095, [" <low+4095>", ""]), (0, RAM - 4096, ["", ""]),
                                 (1, RAM - 4091, [" <low+4091>", " <low+4095>"]), (1, RAM + 4, ["", " <low>"]), (1, RAM + 5, ["", ""])):
         made = with_names(traced(SENDS_A, 2), [(place, "low")])
         assert made.count("low") == sum(map(bool, shown))
-        yield from runs("2 --trace t --quiet", [(place, "low")], b"", "cherisim: not halted\n", made=made.encode(), opened=", make t")
+        yield from runs("2 --trace t --quiet", [(place, "low")], b"", NOT_HALTED, made=made.encode(), opened=", make t")
         yield from runs(f"{steps + 1}", [(place, "low")], b"", f"{started} {steps + 1}, pcc {RAM + 4 + 4 * steps:016x}"
                         + (shown[1] if steps == 0 else with_names(f"{RAM + 8:016x}", [(place, "low")])[16:]) + "\n")
     yield "# an empty table changes nothing"
-    yield from runs("4 --trace t", [], b"A", f"{started} 4, pcc 0000000080000010\n", made="".join(TRACE.splitlines(True)[:4]).encode(),
-                    opened=", make t")
+    yield from runs("4 --trace t", [], b"A", stood(4, RAM + 16), made="".join(TRACE.splitlines(True)[:4]).encode(), opened=", make t")
     yield "# the first trap that nothing handled and its condition, and the last that was handled; no label stands after mtval"
     zero = [(RAM + 4, "load"), (RAM, "start"), (0, "zero")]
     yield from runs("1", zero, b"", f"{started} 1, pcc 0000000000000000 <zero>; first trap: load access fault, mtval 0000000000000000,"
@@ -456,10 +446,11 @@ def labelled_runs():
              trap_effect(28, "CHERI exception, tag violation at ca1", 32 * 11 + 2)]
     for why in ("--why", "--why=all"):
         yield from runs(f"9 {why}", labels, b"", with_names(f"{started} 1, pcc {RAM + 4:016x}\n{reply(*parts)}\n", labels), given=null)
-    yield from runs("9 --why --trace t", labels, b"", f"{started} 1, pcc 0000000080000004 <start+4>\n"
+    yield from runs("9 --why --trace t", labels, b"", stood(1, RAM + 4, " <start+4>")
                     + reply(with_names(begun(RAM + 4, "00000073 ecall"), labels),
                             "effect: trap environment call, mcause 000000000000000b, mtval 0000000000000000") + "\n",
-                    given=file_of("call.img", "nop; ecall"), made=with_names(traced("nop; ecall", 1), labels).encode(), opened=", make t")
+                            given=file_of("call.img", "nop; ecall"), made=with_names(traced("nop; ecall", 1), labels).encode(),
+                            opened=", make t")
     yield "# an audit's trace has them too"
     yield case("audit first.img 4 --symbols s --trace t --quiet", [FILE, table("s", labels)], 0, "open first.img, open s, make t",
                made=four.encode())
@@ -468,14 +459,12 @@ def labelled_runs():
 def runs_without_table():
     """Runs whose table of labels is not read: nothing is done."""
     yield "# the table is read after the image and before the input, and refused as that of a listing: nothing is run or made"
-    none = "cherisim: file none\n  No such file or directory\n"
+    none = missing("none")
     for command in ("run", "audit"):
-        yield case(f"{command} first.img 5 --symbols none --trace t", [FILE], 3, "open first.img, open none", told=none)
-        yield case(f"{command} first.img 5 --symbols s --trace t", [FILE, 's "start"'], 3, "open first.img, open s",
-                   told="cherisim: line 1: no address and label\n  s:1\n")
-        yield case(f"{command} bad.img 5 --symbols none", [BAD], 3, "open bad.img", told=NO_IMAGE)
-        yield case(f"{command} first.img 5 --input none --symbols s", [FILE, 's ""'], 3, "open first.img, open s, open none", told=none)
-        yield case(f"{command} first.img 5 --symbols d", [FILE, "directory d"], 3, "open first.img, open d",
-                   told="cherisim: file d\n  Is a directory\n")
+        yield fails(f"{command} first.img 5 --symbols none --trace t", [FILE], "open first.img, open none", none)
+        yield fails(f"{command} first.img 5 --symbols s --trace t", [FILE, 's "start"'], "open first.img, open s", no_label("s", 1))
+        yield fails(f"{command} bad.img 5 --symbols none", [BAD], "open bad.img", NO_IMAGE)
+        yield fails(f"{command} first.img 5 --input none --symbols s", [FILE, 's ""'], "open first.img, open s, open none", none)
+        yield fails(f"{command} first.img 5 --symbols d", [FILE, "directory d"], "open first.img, open d", is_directory("d"))
         for words in ("--symbols s --trace s", "--symbols s --trace ./s", "--symbols", "--symbols s --symbols s"):
             yield refused(f"{command} first.img 5 {words}", [FILE, 's ""'])

@@ -1,7 +1,7 @@
 """Sessions by the program: commands with labels, schedules, tables that are refused, and what code can reach."""
 
 from cases.explanations import access, begun, reply, root, written
-from cases.program_lines import BAD, FILE, NO_IMAGE, case, file_of, integer, refused
+from cases.program_lines import BAD, FILE, NO_IMAGE, case, fails, file_of, integer, is_directory, missing, no_label, refused, unread
 from cases.quoting import quoted
 from cases.reaching import answered
 from cases.sessions import ECHO_THREE
@@ -107,10 +107,9 @@ def replayed():
     yield session("--tick 0", ["step 1000"], 1000, 0, b"")
     yield session("--tick 1000000 --gap 1000000 --input keys", ["step 1000000", "step 1000000", "step 1"], 1000000, 1000000, b"ABC")
     yield "# the input is read after the table"
-    yield case("debug echo.img --input none", [echo], 3, "open echo.img, open none", told="cherisim: file none\n  No such file or directory\n")
-    yield case("debug echo.img --input d", [echo, "directory d"], 3, "open echo.img, open d", told="cherisim: file d\n  Is a directory\n")
-    yield case("debug echo.img --symbols none --input keys", [echo, 'keys "A"'], 3, "open echo.img, open none",
-               told="cherisim: file none\n  No such file or directory\n")
+    yield fails("debug echo.img --input none", [echo], "open echo.img, open none", missing("none"))
+    yield fails("debug echo.img --input d", [echo, "directory d"], "open echo.img, open d", is_directory("d"))
+    yield fails("debug echo.img --symbols none --input keys", [echo, 'keys "A"'], "open echo.img, open none", missing("none"))
     for words in ("--gap 0", "--gap 1000001", "--tick 1000001", "--gap x", "--input", "--tick", "--tick 1 --tick 1"):
         yield refused(f"debug echo.img {words}", [echo])
 
@@ -123,15 +122,11 @@ def tables_refused(table):
                         ('t "start 0000000080000000"', 1), ('t "\\n"', 1), ('t "80000000 T start"', 1),
                         (table.replace(" start", " T\\tstart"), 1), (table.replace(" halt", " TT halt"), 2),
                         ('t "                 U start\\n                 U"', 2), ('t "                  U start"', 1)):
-        yield case("debug first.img --symbols t", [FILE, wrong], 3, "open first.img, open t",
-                   told=f"cherisim: line {line}: no address and label\n  t:{line}\n")
-    yield case("debug first.img --symbols none", [FILE], 3, "open first.img, open none",
-               told="cherisim: file none\n  No such file or directory\n")
-    yield case("debug first.img --symbols d", [FILE, "directory d"], 3, "open first.img, open d",
-               told="cherisim: file d\n  Is a directory\n")
-    yield case("debug first.img --symbols t", [FILE, table.replace("t ", "t 0 ", 1)], 3, "open first.img, open t",
-               told="cherisim: read failed\n  t: Broken pipe\n")
-    yield case("debug bad.img --symbols none", [BAD], 3, "open bad.img", told=NO_IMAGE)
+        yield fails("debug first.img --symbols t", [FILE, wrong], "open first.img, open t", no_label("t", line))
+    yield fails("debug first.img --symbols none", [FILE], "open first.img, open none", missing("none"))
+    yield fails("debug first.img --symbols d", [FILE, "directory d"], "open first.img, open d", is_directory("d"))
+    yield fails("debug first.img --symbols t", [FILE, table.replace("t ", "t 0 ", 1)], "open first.img, open t", unread("t"))
+    yield fails("debug bad.img --symbols none", [BAD], "open bad.img", NO_IMAGE)
     yield refused("debug first.img --symbols", [FILE])
     yield refused("debug --symbols t", [FILE, table])
 

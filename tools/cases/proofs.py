@@ -5,7 +5,7 @@ What is told is what the model of a proof comes to (model/proving.py); where it 
 import random
 
 from cases.policed import CODE, DATA, GIVEN, Watch, image_of, sealed
-from cases.program_lines import BAD, FILE, NO_IMAGE, case, refused, table
+from cases.program_lines import BAD, FILE, NO_IMAGE, case, fails, missing, refused, table
 from cases.quoting import quoted
 from cases.watched import met
 from model import policy, proving
@@ -245,13 +245,12 @@ def begun():
 def faults():
     yield "# files and policies that are refused, as of `run`"
     rules = f"p {quoted(WHOLE)}"
-    yield case("prove bad.img --policy p", [BAD, rules], 3, "open bad.img", told=NO_IMAGE)
-    yield case("prove bad.img --policy p --quiet", [BAD, rules], 3, "open bad.img", told=NO_IMAGE.splitlines(True)[0])
-    yield case("prove first.img --policy p", [FILE], 3, "open first.img, open p", told="cherisim: file p\n  No such file or directory\n")
-    yield case("prove first.img --policy p", [FILE, 'p "any code in 5\\n"'], 3, "open first.img, open p",
-               told=policy.refused("P2", 1, "p"))
-    yield case("prove first.img --policy p", [FILE, 'p "# nothing\\nany code 0..1\\n"'], 3, "open first.img, open p",
-               told=policy.refused("P1", 2, "p"))
+    yield fails("prove bad.img --policy p", [BAD, rules], "open bad.img", NO_IMAGE)
+    yield fails("prove bad.img --policy p --quiet", [BAD, rules], "open bad.img", NO_IMAGE.splitlines(True)[0])
+    yield fails("prove first.img --policy p", [FILE], "open first.img, open p", missing("p"))
+    yield fails("prove first.img --policy p", [FILE, 'p "any code in 5\\n"'], "open first.img, open p", policy.refused("P2", 1, "p"))
+    yield fails("prove first.img --policy p", [FILE, 'p "# nothing\\nany code 0..1\\n"'], "open first.img, open p",
+                policy.refused("P1", 2, "p"))
     yield refused("prove first.img", [FILE])
     yield refused("prove --policy p", [rules])
     yield refused("prove first.img --policy p --steps 0", [FILE, rules])

@@ -19,8 +19,6 @@ HANDLER, DATA = 0x300, 0x400
 # Encodings that stores write over instructions: addi a0, a0, 1; addi a1, a1, 3; xor a2, a2, a0; ecall; no instruction.
 WORDS = [0x00150513, 0x00358593, 0x00A64633, 0x00000073, 0x00000000]
 
-SAVED = ["csrrw zero, mscratch, t0"]
-
 HANDLERS = {
     0: ["csrrs t3, mcause, zero", "lui t4, 0x200c", "ld t5, -8(t4)", "addi t5, t5, 9", "lui t6, 0x2004", "sd t5, 0(t6)", "lui t6, 0x10000",
         "ld t5, 8(t6)", "blt t3, zero, back", "csrrs t3, mepc, zero", "addi t3, t3, 4", "csrrw zero, mepc, t3", "back: mret"],

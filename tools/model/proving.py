@@ -11,7 +11,7 @@ from typing import NamedTuple, Optional
 
 from model import policy, reach
 from model.capabilities import base, flag, has, is_unsealed, top, with_fields
-from model.devices import HALT, RAM
+from model.devices import RAM
 from model.faults import DDC
 from model.listings import named_address
 from model.machine import DOES, MIE, MPIE, Machine, leads_on, opened, placed_at

@@ -13,7 +13,7 @@ import sys
 sys.path.insert(0, os.path.join(os.path.dirname(os.path.abspath(__file__)), ".."))
 from pages.contracts import calls_of, definitions_of, first_sentence
 from pages.made import fill
-from pages.markdown import table
+from pages.markdown import cut, table
 from toolchain import crates
 
 SCRIPT = os.path.basename(__file__)
@@ -51,7 +51,7 @@ def escaped(text):
 
 
 def row(call):
-    return [f"`{call.name}`", named(call), escaped(call.sentence())]
+    return [f"`{call.name}`", named(call), escaped(cut(call.sentence()))]
 
 
 def all_calls(_):

@@ -14,7 +14,7 @@ import sys
 
 sys.path.insert(0, os.path.join(os.path.dirname(os.path.abspath(__file__)), ".."))
 from pages.made import fill
-from pages.markdown import table
+from pages.markdown import cells_of, table
 from toolchain import ROOT
 
 RECIPES = os.path.join(ROOT, "recipes")
@@ -55,12 +55,12 @@ def room_of(path):
 
 
 def files(name):
-    """The files of a recipe, by crate or folder, with the lines that it adds to each."""
+    """The files of a recipe, by crate or folder, with the lines that it adds to each: a text a cell."""
     found = {}
     for path, added in changed(name):
         room, file = room_of(path)
         found.setdefault(room, []).append(f"{file} {added}")
-    return "; ".join(f"{room}: {', '.join(listed)}" for room, listed in found.items())
+    return cells_of(f"{room}: {', '.join(listed)}" for room, listed in found.items())
 
 
 def tried():
@@ -72,9 +72,11 @@ def tried():
 
 
 def recipes(_):
-    proved = tried()
-    rows = [[f"`{name}`: {title(name)}", str(sum(added for _, added in changed(name))), files(name), proved.get(name, "not yet")]
-            for name in names()]
+    proved, rows = tried(), []
+    for name in names():
+        first, *more = files(name)
+        rows.append([f"`{name}`: {title(name)}", str(sum(added for _, added in changed(name))), first, proved.get(name, "not yet")])
+        rows += [["", "", cell, ""] for cell in more]
     return table(["Recipe", "Lines", "Where, and how many", "Proved on, minutes"], rows)
 
 

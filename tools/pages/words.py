@@ -5,9 +5,9 @@
     words.py --check    shows only what is too much or too old, and ends with 1 if something is
 
 The pages are README.md, CONTRIBUTING.md and docs/*.md; not counted are docs/PROGRAMMING.md, which a script makes, and what stands between
-the marks of tools/pages/made.py. A word has a letter or a digit. docs/PROVED.md has a limit of its own, and a choice of docs/DECISIONS.md
-has two sentences at most. In the pages of `TIMED` each section that speaks of seconds or minutes
-says *measured on* and a date, or the page says it before its first section; none is older than the 200th commit before the last.
+the marks of tools/pages/made.py, but no cell of a table there has too many words either. docs/PROVED.md has a limit of its own, and a
+choice of docs/DECISIONS.md has two sentences at most. In the pages of `TIMED` each section that speaks of seconds or minutes says
+*measured on* and a date, or the page says it before its first section; none is older than the 200th commit before the last.
 """
 import glob
 import os
@@ -17,15 +17,15 @@ import sys
 
 sys.path.insert(0, os.path.join(os.path.dirname(os.path.abspath(__file__)), ".."))
 from pages.made import by_hand, read
+from pages.markdown import MOST_IN_A_CELL, words_in
 from toolchain import ROOT
 
-MOST_WORDS, MOST_LINES, MOST_IN_A_CELL, MOST_SENTENCES, MOST_COMMITS = 30000, 90, 60, 2, 200
+MOST_WORDS, MOST_LINES, MOST_SENTENCES, MOST_COMMITS = 30000, 90, 2, 200
 MOST_IN_A_PAGE = {"docs/PROVED.md": 1500}
 
 NOT_COUNTED = ("docs/PROGRAMMING.md",)
 TIMED = ("README.md", "CONTRIBUTING.md", "docs/ARCHITECTURE.md", "docs/PERFORMANCE.md")
 
-WORD = re.compile(r"\S*\w\S*")
 SENTENCE = re.compile(r"[.!?](?!\S)")
 CELLS = re.compile(r"(?<!\\)\|")
 FIGURE = re.compile(r"(?<![\w-])(?:seconds|minutes|ms|ns|µs)(?!\w)")
@@ -40,16 +40,15 @@ def pages():
 
 def count(text):
     """How many words a text has by hand."""
-    return len(WORD.findall(by_hand(text)))
+    return words_in(by_hand(text))
 
 
 def long_cells(text):
-    """The cells of tables by hand that have too many words: their first words, and how many there are."""
-    for line in by_hand(text).split("\n"):
+    """The cells of tables that have too many words: their first words, and how many there are."""
+    for line in text.split("\n"):
         for cell in CELLS.split(line) if line.startswith("|") else []:
-            words = WORD.findall(cell)
-            if len(words) > MOST_IN_A_CELL:
-                yield " ".join(words[:6]), len(words)
+            if words_in(cell) > MOST_IN_A_CELL:
+                yield " ".join(cell.split()[:6]), words_in(cell)
 
 
 def long_choices(text):

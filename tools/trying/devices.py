@@ -1,6 +1,8 @@
 """Scripts of the devices, by loads and stores of a machine."""
+from cases.values import bytes_text
+
 from .machines import MIP, PAGE, PCC, RAM
-from .reading import Left, Words, bytes_of, bytes_text, number
+from .reading import Left, Words, bytes_of, number
 
 LOADS = {1: "lbu", 2: "lhu", 4: "lwu", 8: "ld"}
 STORES = {1: "sb", 2: "sh", 4: "sw", 8: "sd"}

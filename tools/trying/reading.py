@@ -65,12 +65,6 @@ def bytes_of(word):
     return contents
 
 
-def bytes_text(contents):
-    if len(contents) > 1 and len(set(contents)) == 1:
-        return f"{contents[0]:02x}*{len(contents)}"
-    return contents.hex() or "-"
-
-
 def number(value):
     """A number as a register holds it."""
     return Cap(value & ONES, NULL_HIGH, False)

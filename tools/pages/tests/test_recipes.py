@@ -16,7 +16,7 @@ class Recipes(unittest.TestCase):
         for name in names():
             paths = [path for path, _ in changed(name)]
             self.assertEqual(len(paths), len(set(paths)), name)
-            self.assertEqual(sum(map(str.isdigit, files(name).replace(";", " ").replace(",", " ").split())), len(paths), name)
+            self.assertEqual(sum(map(str.isdigit, " ".join(files(name)).replace(";", " ").replace(",", " ").split())), len(paths), name)
             self.assertFalse(title(name).startswith("diff"), name)
 
     def test_what_scripts_make_is_no_part_of_a_recipe(self):

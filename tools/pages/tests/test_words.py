@@ -3,7 +3,8 @@
 import unittest
 
 from pages.made import by_hand, filled
-from pages.words import MOST_IN_A_CELL, count, long_cells, long_choices, old_figures
+from pages.markdown import MOST_IN_A_CELL, cells_of, cut
+from pages.words import count, long_cells, long_choices, old_figures
 
 PAGE = "One two.\n\n<!-- made by a.py: that -->\n\nthree\n\n<!-- end -->\n\n| four | -- |\n"
 
@@ -27,6 +28,11 @@ class Limits(unittest.TestCase):
         full = "x " * MOST_IN_A_CELL
         self.assertEqual(list(long_cells(f"| {full} | {full} |\n")), [])
         self.assertEqual([words for _, words in long_cells(f"| {full} y | z |\n")], [MOST_IN_A_CELL + 1])
+
+    def test_what_scripts_make_has_no_longer_cells(self):
+        part = "a " * MOST_IN_A_CELL
+        self.assertEqual([cut("a, b"), cut(f"a: b, {part}")], ["a, b", "a: b, .."])
+        self.assertEqual(list(cells_of(["a", "b", part, "c"])), ["a; b", part, "c"])
 
     def test_a_bar_in_code_ends_no_cell(self):
         self.assertEqual(len(list(long_cells("| " + "x \\| " * (MOST_IN_A_CELL + 1) + " |\n"))), 1)
