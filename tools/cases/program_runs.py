@@ -9,7 +9,7 @@ from model.devices import RAM
 from model.listings import with_names
 from model.images import FIRST, header, section
 from model.texts import machine_of
-from model.unhandled import ending
+from model.unhandled import before_second, ending
 from model.words import SPACE
 
 HALTS_WITH_7 = "lui a1, 0x100; addi a0, zero, 7; sd a0, 0(a1)"
@@ -204,6 +204,27 @@ ASKS_FOR_BYTES = ("lui a1, 0x10000; ld a2, 8(a1); addi a0, zero, 1; sd a0, 24(a1
                   "csrrsi zero, mstatus, 8; nop; j .+0")
 
 
+def doubled():
+    """Runs that end before a trap while another is open, by the model; the lines of a trace say how far they came."""
+    def runs(words, most, *counts):
+        done = before_second(machine_of(words), most)
+        for steps in sorted({*counts, done, done + 1, most}):
+            yield case(f"run trap.img {steps} --why=double --quiet --trace t", [file_of("trap.img", words)], 1, "open trap.img, make t", b"",
+                       "cherisim: not halted\n", traced(words, min(steps, done)).encode())
+
+    yield "# before a trap in a handler: after twenty steps of it, at its first, at an entry that can't be fetched, and of an interrupt"
+    yield from runs(HANDLER_TRAPS, 60, 7)
+    for words in (HANDLER_TRAPS_AT_ONCE, "ecall", LOADS_BY_NULL, IS_INTERRUPTED):
+        yield from runs(words, 12)
+    yield "# a trap after the return from the one before is no such; one in a handler that returns is, whether or not it is handled"
+    for words in (IS_HANDLED, IS_HANDLED_ONCE, NESTED_RETURNS, NESTED_TRAPS_AFTER, f"{HANDLED}ecall; ecall; nop; {HANDLER}; ecall"):
+        yield from runs(words, 32)
+    yield "# a handler that leaves by a jump to the level where the trap was taken has handled it; elsewhere, and at its own level, not"
+    for words in (left_by(JUMPS_BACK), left_by(JUMPS_BACK, WITHOUT), left_by(JUMPS_BACK, goes_on=""), left_by(JUMPS_ELSEWHERE)):
+        yield from runs(words, 30)
+    yield from runs(f"{SETS_HANDLER}; ecall; handler: j on; nop; on: {ENDS_HANDLER}; {LOADS_BY_NULL}", 12)
+
+
 def stopped():
     """Runs that end before a trap, and why the next step traps, by the order of conditions."""
     ecall = "effect: trap environment call, mcause 000000000000000b, mtval 0000000000000000"
@@ -218,7 +239,7 @@ def stopped():
                    told(*expected), made)
 
     yield "# a run that is to stop before a trap, and meets none, is as any other"
-    for why in ("--why", "--why=all"):
+    for why in ("--why", "--why=all", "--why=double"):
         yield case(f"run first.img 9 {why}", [FILE], 0, "open first.img", b"A")
         yield case(f"run first.img 4 {why}", [FILE], 1, "open first.img", b"A", stood(4, RAM + 16))
     yield case("run echo.img 22 --input keys --gap 7 --why=all", [ECHO, 'keys "ABC"'], 0, "open echo.img, open keys", b"ABC")
@@ -242,6 +263,10 @@ def stopped():
     yield case("run trap.img 9 --why", [file_of("trap.img", LOAD_IS_HANDLED)], 1, "open trap.img", b"",
                f"cherisim: not halted\ncherisim: steps 9, pcc {RAM + 16:016x}; last trap: CHERI exception, tag violation at ca1,"
                f" mepc {RAM + 16:016x}\n")
+    yield "# with --why=double a trap that is handled is no stop, and one while it is handled is"
+    second = f"{SETS_HANDLER}; ecall; handler: ecall"
+    yield from stops(" --why=double", 9, second, 4, RAM + 16, begun(RAM + 16, "00000073 ecall"), ecall)
+    yield from doubled()
     yield "# what was sent before it, and the byte that comes just before it: here it makes the interrupt that is taken"
     yield from stops(" --input keys --gap 3 --why", 9, SENDS_AND_CALLS, 3, RAM + 12, begun(RAM + 12, "00000073 ecall"), ecall, sent=b"A",
                      parts=['keys "AB"'], opened=", open keys")

@@ -78,19 +78,31 @@ def condition(before, step):
     return f"  no length of {name}: {address:016x} + {size} in {base(by):016x} to {top(by):017x}\n"
 
 
+def do(opened, machine, number):
+    """Does the step of a number; whether it was a trap while another was open."""
+    pcc, mtcc, before, others = machine.special["pcc"], machine.special["mtcc"], machine.copy(), len(opened.stack)
+    before.at = pcc
+    step = machine.step()
+    if step.trap:
+        is_fetch = step.word is None and not step.trap[0] & faults.INTERRUPT
+        opened.trap(Taken(number, pcc[1], *step.trap, condition(before, step), level_of(pcc), level_of(pcc) != level_of(mtcc)), is_fetch)
+    else:
+        opened.step(level_of(pcc), step.insn.row == "mret")
+    return bool(step.trap and others)
+
+
 def run(machine, steps):
     """Does so many steps, and answers the traps that are then open."""
     opened = Open()
     for number in range(1, steps + 1):
-        pcc, mtcc, before = machine.special["pcc"], machine.special["mtcc"], machine.copy()
-        before.at = pcc
-        step = machine.step()
-        if step.trap:
-            is_fetch = step.word is None and not step.trap[0] & faults.INTERRUPT
-            opened.trap(Taken(number, pcc[1], *step.trap, condition(before, step), level_of(pcc), level_of(pcc) != level_of(mtcc)), is_fetch)
-        else:
-            opened.step(level_of(pcc), step.insn.row == "mret")
+        do(opened, machine, number)
     return opened
+
+
+def before_second(machine, steps):
+    """How many of so many steps come before a trap that is taken while another is open."""
+    opened = Open()
+    return next((done for done in range(steps) if do(opened, machine, done + 1)), steps)
 
 
 def ending(machine, steps):

@@ -82,7 +82,7 @@ def words_of_plan(plan):
         if rest[:1] == ["quiet"]:
             line, rest = [*line, "--quiet"], rest[1:]
         for name, value in zip(rest[::2], rest[1::2]):
-            line += {"why": [f"--why={value}" if value == "all" else "--why"]}.get(name, [f"--{name}", value])
+            line += {"why": [f"--why={value}" if value in ("all", "double") else "--why"]}.get(name, [f"--{name}", value])
         return line
     if command == "prove":
         image, rules, steps, *rest = words

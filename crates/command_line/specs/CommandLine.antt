@@ -12,7 +12,7 @@ use Rattle.command_line.specs.declared.plans.Plan.{Plan}
 use Rattle.command_line.specs.declared.plans.Plan.TheVariants.{Asm, Image, Go, Run, Audit, Prove, Dis, Debug, Bounds, Word, First}
 use Rattle.command_line.specs.declared.plans.RunRequest.{RunRequest}
 use Rattle.command_line.specs.declared.plans.Why.{Why}
-use Rattle.command_line.specs.declared.plans.Why.TheVariants.{Unfetched, All}
+use Rattle.command_line.specs.declared.plans.Why.TheVariants.{Unfetched, All, Double}
 use Rattle.command_line.specs.declared.table.Stands.{Stands}
 use Rattle.command_line.specs.declared.table.Stands.TheVariants.{Operand, Optional, Named, Required, Flag, FlagOrAll}
 use Rattle.command_line.specs.declared.table.Takes.{Takes}
@@ -55,7 +55,7 @@ entry_of row = entry row.0.now (map line_of row.2.now)
 -- ---- the command that clap reads the words by
 
 -- a word that must be there, a word that need not, --ID VALUE, the same where it must be there, or --ID; and where the words have
--- --why=all, --why takes a value too
+-- --why=all or --why=double, --why takes a value too
 abbrev pub as_stands : Bool → Stands → Text → Rule → Rule
 as_stands all Operand id rule = record rule { required = true }
 as_stands all Optional id rule = rule
@@ -91,10 +91,14 @@ with_commands all app (row ∷ rows) = with_commands all (with_subcommand app (c
 unfoldable pub program : Bool → App
 program all = with_commands all (new_app (codes "cherisim")) commands
 
--- one of the words is --why=all, before any --
+-- a word that says which ends of a run are explained
+abbrev pub names_ends : Text → Bool
+names_ends word = bytes_eq word (codes "--why=all") || bytes_eq word (codes "--why=double")
+
+-- one of the words is one, before any --
 abbrev pub asks_all : List Text → Bool
 asks_all [] = false
-asks_all (word ∷ words) = not (bytes_eq word (codes "--")) && (bytes_eq word (codes "--why=all") || asks_all words)
+asks_all (word ∷ words) = not (bytes_eq word (codes "--")) && (names_ends word || asks_all words)
 
 -- the command that reads these words, the program's name first
 abbrev pub program_of : List Text → App
@@ -140,9 +144,11 @@ count_in text = if is_hexadecimal text then number_in 16 (drop 2 text) else numb
 abbrev pub is_within : ℕ → ℕ → ℕ → Bool
 is_within least most number = nat_le least number && nat_le number most
 
--- with --why those ends where an instruction was not fetched, and with --why=all all
+-- with --why those ends where an instruction was not fetched, with --why=all all, with --why=double a trap while another is open
 abbrev pub why_of : Text → Option Why
-why_of text = if bytes_eq text (codes "true") then Some Unfetched else if bytes_eq text (codes "all") then Some All else None
+why_of text =
+    if bytes_eq text (codes "true") then Some Unfetched else if bytes_eq text (codes "all") then Some All
+    else if bytes_eq text (codes "double") then Some Double else None
 
 -- a number from `least` to `most` is said
 abbrev pub counted : ℕ → ℕ → Option ℕ → Option Said

@@ -7,6 +7,8 @@ pub enum Why {
     Unfetched,
     /// All.
     All,
+    /// Those before a trap while another is open.
+    Double,
 }
 
 /// A run of an image that is asked for.

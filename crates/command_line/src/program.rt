@@ -46,7 +46,7 @@ The status is 0 where all went well, for a run where the machine halted with 0; 
 otherwise, where `audit` finds that a policy is broken, and where `prove` doesn't show that it is
 kept; 2 for a command line that is no command; 3 for any other fault.";
 
-/// Puts an argument where it stands among the words; `all` says that the words have `--why=all`.
+/// Puts an argument where it stands among the words; `all` says that the words have `--why=all` or `--why=double`.
 fn as_stands<'a>(all: bool, stands: Stands, id: &'a str, value: &'a str, arg: Arg<'a>) -> Arg<'a>
     ensures rule { rule_of result ≡ as_stands all stands id.entry.now (rule_of arg.entry) }
     ensures local { result.global ≡ arg.entry.global }
@@ -174,7 +174,7 @@ fn with_commands<'a>(
     }
 }
 
-/// The command line of the program; `all` says that the words have `--why=all`.
+/// The command line of the program; `all` says that the words have `--why=all` or `--why=double`.
 #[tactic(auto, unfolding(crate::specs::CommandLine::program, crate::specs::CommandLine::commands))]
 pub(crate) fn program<'a>(alloc: Global, all: bool) -> Result<Command<'a>, AllocError>
     ensures { IfOk result (λ c. app_of c ≡ program all) }

@@ -5,6 +5,7 @@ ghost use Rattle.std.specs.List.{list_all};
 ghost use Rattle.clap.specs.Words.{first_of, found_of, rows_of, kind_of, subcommand_rows_of};
 ghost use Rattle.clap.specs.declared.error.kind.ErrorKind.{ErrorKind};
 ghost use Rattle.command_line.specs.CommandLine.{found_in, IsSound, IsTaken, IsPlanOf, NoPlanFits, asks_all, may_stand, line_of, entry_of};
+ghost use Rattle.command_line.specs.CommandLine.{names_ends};
 ghost use Rattle.command_line.specs.CommandLine.{Said, AreFit, AreSaid, HasAll, Says, lines_named, commands, files_found, NothingStands};
 ghost use Rattle.command_line.specs.CommandLine.{are_apart, are_two, have_one_name, is_file, is_input, is_written, run_lines};
 ghost use Rattle.command_line.specs.CommandLine.{said_of_lines};
@@ -525,7 +526,14 @@ fn fault_of(alloc: Global, words: &[&str], error: Error) -> PlanFault
     }
 }
 
-/// Whether one of the words is `--why=all`, before any `--`.
+/// Whether a word is `--why=all` or `--why=double`.
+fn names_ends(word: &str) -> bool
+    ensures { result ≡ names_ends word.now }
+{
+    word == "--why=all" || word == "--why=double"
+}
+
+/// Whether one of the words is one of these, before any `--`.
 fn asks_all(words: &[&str]) -> bool
     ensures { result ≡ asks_all (map (λ word. word.now) words.entry.now) }
 {
@@ -533,7 +541,7 @@ fn asks_all(words: &[&str]) -> bool
         if *word == "--" {
             return false;
         }
-        if *word == "--why=all" {
+        if names_ends(word) {
             return true;
         }
     }

@@ -213,7 +213,7 @@ pub(crate) const STATUS: Argument = argument!("quiet" Flag Nothing, "",
     "Leaves out what is told of a run but its status");
 
 pub(crate) const WHY: Argument = argument!("why" FlagOrAll Ends, "WHICH",
-    "Explains where the run ended if an instruction could not be fetched; --why=all explains each end");
+    "Explains where the run ended if no instruction could be fetched; --why=all each end, --why=double a trap while one is open");
 
 pub(crate) const FLAT_ELF: Argument = argument!("flat-elf" Flag Nothing, "",
     "Takes the bytes of an ELF as they stand, where it would be refused");

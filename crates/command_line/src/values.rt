@@ -33,6 +33,7 @@ pub(crate) fn why_of(text: &str) -> Option<Why>
     match text {
         "true" => Some(Why::Unfetched),
         "all" => Some(Why::All),
+        "double" => Some(Why::Double),
         _ => None,
     }
 }

@@ -6,7 +6,7 @@ use Rattle.std.specs.Io.KnownBytes.{Appends}
 use Rattle.base.specs.Ram.{ram_base}
 use Rattle.command_line.specs.declared.plans.RunRequest.{RunRequest}
 use Rattle.command_line.specs.declared.plans.Why.{Why}
-use Rattle.command_line.specs.declared.plans.Why.TheVariants.{Unfetched, All}
+use Rattle.command_line.specs.declared.plans.Why.TheVariants.{Unfetched, All, Double}
 use Rattle.hart.specs.Opening.{opening}
 use Rattle.image.specs.Image.{Image, image_of}
 use Rattle.machine.specs.declared.end.End.{End}
@@ -32,6 +32,7 @@ abbrev pub stop_at : Option Why → Option StopAt
 stop_at None = None
 stop_at (Some Unfetched) = Some stop.Unfetched
 stop_at (Some All) = Some stop.Violation
+stop_at (Some Double) = Some stop.Double
 
 -- the events of a run up to the trap that it stops at
 abbrev pub events_of : Option StopAt → Run → List Event

@@ -91,6 +91,7 @@ pub fn stop_at(why: Option<Why>) -> Option<StopAt>
         None => None,
         Some(Why::Unfetched) => Some(StopAt::Unfetched),
         Some(Why::All) => Some(StopAt::Violation),
+        Some(Why::Double) => Some(StopAt::Double),
     }
 }
 

@@ -139,7 +139,7 @@ neither-end : (stops unfetched trap : Bool) → stops ≡ false → trap ≡ fal
 neither-end stops true trap a b = rw (a, b) refl
 neither-end stops false trap a b = rw a refl
 
-none-met : (at : Option ℕ) (s : State) → GoesBy at s → is_trap_met Unfetched s ≡ false
+none-met : (at : Option ℕ) (s : State) → GoesBy at s → is_trap_met Unfetched false s ≡ false
 unfolding is_trap_met
 none-met at s by =
     let plain : is_trap (outcome Step s) ≡ false = ap is_trap by.plain in
@@ -158,13 +158,13 @@ one-stop d (stop ∷ other ∷ stops) some few at is s by = absurd (omega (arith
 
 pub passes-none : (ends : Ends) → length ends.stops < 1 → (s : State) → GoesBy None s → is_end ends s ≡ false
 passes-none ends few s by =
-    neither-end (is_any_stop ends.stops s) ends.unfetched (is_trap_met Unfetched s) (no-stop ends.stops few s) (none-met None s by)
+    neither-end (is_any_stop ends.stops s) ends.unfetched (is_trap_met Unfetched false s) (no-stop ends.stops few s) (none-met None s by)
 
 pub passes-one : (d : Stop) (ends : Ends) → 1 ≤ length ends.stops → length ends.stops < 2 → (at : Option ℕ)
     → at ≡ stop_address (get_or ends.stops 0 d)
     → (s : State) → GoesBy at s → is_end ends s ≡ false
 passes-one d ends some few at is s by =
-    neither-end (is_any_stop ends.stops s) ends.unfetched (is_trap_met Unfetched s) (one-stop d ends.stops some few at is s by)
+    neither-end (is_any_stop ends.stops s) ends.unfetched (is_trap_met Unfetched false s) (one-stop d ends.stops some few at is s by)
     (none-met at s by)
 
 pub positive : (n : ℕ) → (n ≡ 0 → ⊥) → 0 < n

@@ -18,7 +18,7 @@ none None s h = absurd (cc)
 none (Some n) s h = refl
 
 pub halted-not-met : (s : State) (halted : Option ℕ) (b : Bool) → halted ≡ s.devices.halted → b ≡ is_some halted → b ≡ true → (c : Bool)
-    → false ≡ (is_trap_met Unfetched s && c)
+    → false ≡ (is_trap_met Unfetched false s && c)
 unfolding is_trap_met step_outcome
 halted-not-met s halted b is same on c =
     let off : is_trap (outcome Step s) ≡ false = none s.devices.halted s (sym (ap is_some is) ∙ sym same ∙ on) in

@@ -144,7 +144,7 @@ events_line symbols events s =
 -- what `go` says too: that the next step is a trap whose entry can't be fetched, where no stop of the session holds there
 abbrev pub said_after : Events → List Stop → State → List ℕ
 said_after (Go n) stops s =
-    if is_trap_met Unfetched s && not (is_any_stop stops s) then codes "before a trap whose entry can't be fetched\n" else []
+    if is_trap_met Unfetched false s && not (is_any_stop stops s) then codes "before a trap whose entry can't be fetched\n" else []
 said_after other stops s = []
 
 abbrev pub events_text : Events → SessionState → List ℕ

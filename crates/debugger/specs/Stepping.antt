@@ -49,7 +49,7 @@ abbrev pub of_go : List Stop → Ends
 of_go stops = ends stops true
 
 abbrev pub is_end : Ends → State → Bool
-is_end e s = is_any_stop e.stops s || (e.unfetched && is_trap_met Unfetched s)
+is_end e s = is_any_stop e.stops s || (e.unfetched && is_trap_met Unfetched false s)
 
 -- ---- the schedule
 

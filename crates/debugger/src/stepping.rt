@@ -84,18 +84,18 @@ fn is_end<C: CapRep>(
     ensures { result ≡ is_end (ends stops.now unfetched) machine.now }
 {
     is_any_stop(machine, stops, planned)
-        || (unfetched && stops_before(machine, planned, StopAt::Unfetched))
+        || (unfetched && stops_before(machine, planned, StopAt::Unfetched, false))
 }
 
 /// Whether the next step is a trap whose entry can't be fetched, and no stop holds there.
 fn is_before_unfetched<C: CapRep>(machine: &Machine<C>, stops: &[Stop]) -> bool
-    ensures { result ≡ (is_trap_met Unfetched machine.now && not (is_any_stop stops.now machine.now)) }
+    ensures { result ≡ (is_trap_met Unfetched false machine.now && not (is_any_stop stops.now machine.now)) }
 {
     if machine.halted().is_some() {
         return false;
     }
     let planned = machine.next();
-    stops_before(machine, &planned, StopAt::Unfetched) && !is_any_stop(machine, stops, &planned)
+    stops_before(machine, &planned, StopAt::Unfetched, false) && !is_any_stop(machine, stops, &planned)
 }
 
 /// What a command says after its events, beside the line that tells of them.

@@ -117,7 +117,7 @@ fn unfetched_in(fetched: Fetched) -> u64
 
 /// The level that a trap of the next step leaves, where the trap's entry has another.
 #[tactic(auto, unfolding(special_regs::specs::Scrs::scr_value))]
-fn level_left<C: CapRep>(machine: &Machine<C>) -> Option<Level>
+pub(crate) fn level_left<C: CapRep>(machine: &Machine<C>) -> Option<Level>
     ensures { result ≡ level_left machine.now }
 {
     let level = Level::of(machine.scr(scr::PCC));
@@ -140,7 +140,7 @@ fn is_at<C: CapRep>(level: Option<Level>, machine: &Machine<C>) -> bool
 }
 
 /// The first trap that is open after the next step, which is planned and is no trap.
-fn gone_on<C: CapRep>(
+pub(crate) fn gone_on<C: CapRep>(
     machine: &Machine<C>,
     planned: &Planned<C>,
     first: Option<First>,

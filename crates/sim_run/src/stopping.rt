@@ -1,7 +1,7 @@
 //! A run that ends before a step that traps, to show why.
 
 ghost use Rattle.std.proofs.Common.{◌∙◌};
-ghost use Rattle.std.specs.Prelude.{◌≡◌, Some, None, IfOk, IfSome, false, is_err, string_bytes, ⊤, refl};
+ghost use Rattle.std.specs.Prelude.{◌≡◌, ℕ, Some, IfOk, IfSome, false, is_err, is_some, string_bytes, ⊤, refl, [], ◌∷◌};
 ghost use Rattle.special_regs.specs.Scrs.{IsAligned};
 ghost use Rattle.steps.specs.Applying.{IsPlanned};
 ghost use Rattle.steps.specs.Event.{after};
@@ -9,13 +9,14 @@ ghost use Rattle.steps.specs.State.{State};
 ghost use Rattle.steps.specs.Step.{fetch, step_effect};
 ghost use Rattle.steps.specs.declared.effect.Effect.TheVariants.{Trap};
 ghost use Rattle.steps.specs.declared.event.Event.TheVariants.{Step};
-ghost use Rattle.schedules.specs.declared.pace.Speed.TheVariants.{Short};
 ghost use Rattle.schedules.specs.Schedule.{events_before, is_halted, scheduled, IsPlaceOf, IsRunnable};
 ghost use Rattle.sim_run.specs.Stopping.{events_met, is_asked, is_stop, is_violation, stop_met, stopped_lines};
-ghost use Rattle.sim_run.specs.Stopped.{PassesStops};
-ghost use Rattle.sim_run.specs.StoppedLaws.{passes_more};
+ghost use Rattle.sim_run.specs.Stopped.{stop_pace, IsOnly, Searched};
+ghost use Rattle.sim_run.specs.StoppedLaws.{searched_more, searched_none};
+ghost use Rattle.sim_run.specs.Unhandled.{after_step, Traps};
+ghost use Rattle.sim_run.specs.declared.stopping.StopAt.TheVariants.{Double};
 
-use crate::notes::trap_in;
+use crate::notes::{First, gone_on, level_left, trap_in};
 use base::{Cause, Fault, Size};
 use cap_bounds::CapRep;
 use cap_checks::check_fetch;
@@ -38,6 +39,8 @@ pub enum StopAt {
     Unfetched,
     /// A CHERI exception, or an access fault of a fetch, a load or a store, whether or not it is handled.
     Violation,
+    /// One that comes while another is open: before the MRET that returns from it.
+    Double,
 }
 
 /// Whether a cause is a CHERI exception or an access fault.
@@ -78,67 +81,102 @@ fn is_entry_unfetched<C: CapRep>(machine: &Machine<C>, fault: Fault) -> bool
 }
 
 /// Whether the trap by this fault, which the next step is, is one to stop before.
-fn is_asked<C: CapRep>(machine: &Machine<C>, at: StopAt, fault: Fault) -> bool
+fn is_asked<C: CapRep>(machine: &Machine<C>, at: StopAt, is_open: bool, fault: Fault) -> bool
     requires running { is_halted machine.now ≡ false }
     requires traps { step_effect machine.now ≡ Trap fault }
-    ensures { result ≡ is_asked at (after Step machine.now) }
+    ensures { result ≡ is_asked at is_open (after Step machine.now) }
 {
     match at {
         StopAt::Unfetched => is_entry_unfetched(machine, fault),
         StopAt::Violation => is_violation(fault.mcause),
+        StopAt::Double => is_open,
     }
 }
 
-/// Whether the next step of a machine that isn't halted, which was planned, is a trap to stop before.
-pub fn stops_before<C: CapRep>(machine: &Machine<C>, planned: &Planned<C>, at: StopAt) -> bool
+/// Whether the next step of a machine that isn't halted, which was planned, is a trap to stop before, where a trap is open or none is.
+pub fn stops_before<C: CapRep>(
+    machine: &Machine<C>,
+    planned: &Planned<C>,
+    at: StopAt,
+    is_open: bool,
+) -> bool
     requires planned { IsPlanned C.value planned.now.effect machine.now }
     requires running { is_halted machine.now ≡ false }
-    ensures { result ≡ is_stop at machine.now }
+    ensures { result ≡ is_stop at is_open machine.now }
 {
     match trap_in(planned) {
-        Some(fault) => is_asked(machine, at, fault),
+        Some(fault) => is_asked(machine, at, is_open, fault),
         None => false,
+    }
+}
+
+/// The only trap that is open after the next step, which was planned and isn't a second one.
+fn open_after<C: CapRep>(
+    machine: &Machine<C>,
+    planned: &Planned<C>,
+    only: Option<First>,
+) -> Option<First>
+    requires planned { IsPlanned C.value planned.now.effect machine.now }
+    requires running { is_halted machine.now ≡ false }
+    ensures { (number : ℕ) (left : Traps) → is_stop Double (is_some only) machine.now ≡ false → IsOnly only left.first
+        → IsOnly result (after_step number machine.now left).first }
+{
+    match trap_in(planned) {
+        Some(_) => Some(First {
+            number: 0,
+            inner: 0,
+            level: level_left(machine),
+        }),
+        None => gone_on(machine, planned, only),
     }
 }
 
 /// A watch that stops before the first step that is such a trap.
 #[derive(Drop)]
-pub struct Stop {
+struct Stop {
     /// Which trap.
-    pub at: StopAt,
+    at: StopAt,
+    /// The trap that is open, where a second one is looked for. Its number isn't asked.
+    only: Option<First>,
 }
 
 impl<C: CapRep> Watch<Machine<C>> for Stop {
     type Fault = Infallible;
 
-    ghost Saw = { λ events s a b. (b.at ≡ a.at) × PassesStops a.at events s };
+    ghost Saw = { λ events s a b. (b.at ≡ a.at) × Searched a.at a.only b.only events s };
 
     ghost Lost = { λ _ _ _ _ _. ⊥ };
 
     ghost Barred = { λ _ _ _ _ _. ⊥ };
 
-    ghost Asked = { λ s a b. (b.at ≡ a.at) × (is_stop a.at s ≡ false) };
+    ghost Asked = { λ s a b. (b.at ≡ a.at) × Searched a.at a.only b.only (Step ∷ []) s };
 
     ghost IsReady = { λ _. ⊤ };
 
-    ghost pace_of = { λ _. record { speed = Short None; most = 18446744073709551615 } };
+    ghost pace_of = { λ w. stop_pace w.only };
 
-    ghost stops_at = { λ w s. is_stop w.at s };
+    ghost stops_at = { λ w s. is_stop w.at (is_some w.only) s };
 
-    ghost starts = { λ s w. (refl, tt) };
+    ghost starts = { λ s w. (refl, searched_none w.at w.only s) };
 
-    ghost goes_on = { λ xs ys s u v w first later. (later.0 ∙ first.0, passes_more xs ys s u.at v.at first.0 first.1 later.1) };
+    ghost goes_on = { λ xs ys s u v w first later. (
+      later.0 ∙ first.0,
+      searched_more xs ys s u.at v.at u.only v.only w.only first.0 first.1 later.1,
+    ) };
 
     ghost fails_later = { λ fault xs ys s u v w first later. later };
 
     ghost bars_later = { λ fault xs ys s u v w first later. later };
 
     fn pace(&self) -> Pace {
-        Pace::of(Speed::Short(None))
+        match self.only {
+            None => Pace::of(Speed::Short(None)),
+            Some(_) => Pace::of(Speed::Each),
+        }
     }
 
     fn stops(&self, machine: &Machine<C>, planned: &Planned<C>) -> bool {
-        stops_before(machine, planned, self.at)
+        stops_before(machine, planned, self.at, self.only.is_some())
     }
 
     fn came(&mut self, _machine: &Machine<C>) {}
@@ -152,7 +190,11 @@ impl<C: CapRep> Watch<Machine<C>> for Stop {
         Ok(())
     }
 
-    fn before(&mut self, _machine: &Machine<C>, _planned: &Planned<C>) -> Result<(), Infallible> {
+    fn before(&mut self, machine: &Machine<C>, planned: &Planned<C>) -> Result<(), Infallible> {
+        match self.at {
+            StopAt::Double => self.only = open_after(machine, planned, self.only),
+            _ => {}
+        }
         Ok(())
     }
 
@@ -176,7 +218,7 @@ pub fn find_stop<C: CapRep>(
         ≡ events_met (Some at) (scheduled schedule input.now machine.old) machine.old }
     ensures place { IfSome result (IsPlaceOf schedule) }
 {
-    let mut stop = Stop { at };
+    let mut stop = Stop { at, only: None };
     let Walking { how, steps } = walk_whole(machine, schedule, input, &mut stop);
     match how {
         How::Done | How::Halted => None,
