@@ -244,7 +244,8 @@ enum {
     CHERISIM_RULE_SYSTEM = 6,
     CHERISIM_RULE_SEAL = 7,
     CHERISIM_RULE_TYPES = 8,
-    CHERISIM_RULE_KEEP = 9
+    CHERISIM_RULE_KEEP = 9,
+    CHERISIM_RULE_ENTER = 10
 };
 /* Where a policy stops a run, if one is found: the number of the step that is not done; the line of the rule that is broken there; which
  * member of the reach of the state before that step breaks it; and which part. Else 0 each. */

@@ -63,6 +63,14 @@ class Cases(unittest.TestCase):
         self.assertEqual(machine.copy().watch("when pc in 0x80000000..+4: types 8", 5).breach[:3], (1, 1, "types"))
         self.assertIsNone(machine.watch("when pc in 0x80000000..+4: types 7", 5).breach)
 
+    def test_enter(self):
+        machine = Machine(text="nop\n")
+        machine.regs["ca0"] = Cap.make(RAM + 8, RAM + 16, otype=7, perms=Perms.Execute)
+        machine.scrs["pcc"], machine.scrs["ddc"] = Cap.make(RAM, RAM + 4, perms=Perms.Execute), 0
+        rule = f"when pc in {RAM:#x}..+4: execute within {RAM:#x}..+4, enter within "
+        self.assertEqual(machine.copy().watch(f"{rule}control", 1).breach[:3], (1, 1, "enter"))
+        self.assertIsNone(machine.watch(f"{rule}{RAM + 8:#x}..+1", 1).breach)
+
     def test_input(self):
         """The byte before the step that isn't done has come, as those before it."""
         machine = Machine(text="nop\n" * 8)

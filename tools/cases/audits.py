@@ -5,7 +5,7 @@ What is written is what the model of a machine meets (model/machine.py, cases/wa
 """
 
 from cases.callers import BY_PAIR, BY_SENTRY, LENT, SENTRY, by_caller, calling, rule
-from cases.policed import CALL, FIRST, HALTS, KEEPS, RUNS_OFF, UNTAGGED, WHOLE, Watch, image_of, inside, program, sealed
+from cases.policed import BY_ROOT, CALL, FIRST, HALTS, KEEPS, RUNS_OFF, UNTAGGED, WHOLE, Watch, image_of, inside, program, sealed
 from cases.program_lines import BAD, FILE, NO_IMAGE, TRACE, case, fails, missing
 from cases.quoting import quoted
 from cases.watched import GAP, TICK, audited, entered
@@ -56,13 +56,15 @@ def parts():
     yield finds(FIRST, WHOLE + "types none, store within 0..0xffffffffffffffff 0xffffffffffffffff..+1, transmit yes\n", 0, 2, named=False)
     yield finds(FIRST, "when pc in 0x80000014..+4: halt no\n", 0, named=False)
     yield "# each part: before the first step at which it is broken, and not again"
-    for name in policy.PARTS[:-1]:
+    for name in BY_ROOT:
         yield finds(FIRST, WHOLE + f"{name} no\n", 1, named=False)
     yield finds(program(HALTS, ("cs0", "data", 16, STORE), before=sealed("cs0", 7)), inside("types 6 8"), 1)
     yield "# all of them at one step, in the order of parts; and those of several rules, in their order"
-    yield finds(FIRST, WHOLE + ", ".join(f"{name} no" for name in reversed(policy.PARTS[:-1])) + "\n", 9, named=False)
+    yield finds(FIRST, WHOLE + ", ".join(f"{name} no" for name in reversed(BY_ROOT)) + "\n", 9, named=False)
     two = program(HALTS, ("cs0", "1", 2, SEAL), ("cs1", "data", 16, STORE), ("cs2", "data", 8, STORE | LOAD))
     yield finds(two, inside("seal no", "load no", "store within data..+8") + "# again\n\t" + inside("store no", "seal no"), 5)
+    sentry = program(HALTS, ("cs0", "data", 16, CALL), before=["csealentry cs0, cs0"])
+    yield finds(sentry, inside("execute within code..+0x80", "enter no", "halt no"), 2)
     yield "# of each part the first that breaks it, with what leads to it"
     leads = program(("cs3", "table", 32, LOAD | LOAD_CAPABILITY), HALTS, ("cs0", "data", 8, STORE),
                     data=["table: .cap data, 8, 12, 0", ".cap 0x100000, 8, 8, 0"])
@@ -131,6 +133,9 @@ def entries():
     yield enters(program(HALTS), 2)
     yield enters(program(HALTS, ("cs0", str(TRANSMIT), 1, STORE), ("cs1", str(TIMER_COMPARE), 8, STORE), ("cs2", "7", 1, UNSEAL)), 2)
     yield enters(program(HALTS, code=CALL | ACCESS_SYSTEM_REGISTERS), 2)
+    seals = ["csealentry cs0, cs0", *sealed("cs1", 5), "csealentry cs2, cs2", *sealed("cs3", 6)]
+    yield enters(program(HALTS, ("cs0", "0x80000348", 16, CALL), ("cs1", "data", 16, CALL), ("cs2", "data", 8, CALL),
+                         ("cs3", "data", 16, LOAD), before=seals), 2)
     yield enters(program(HALTS, ("cs0", str(TRANSMIT + 1), 7, STORE), ("cs1", str(TIMER_COMPARE), 8, LOAD),
                          ("cs2", str(GREATEST_SEALING_TYPE + 1), 4, SEAL), ("cs3", "data", 16, ACCESS_SYSTEM_REGISTERS)), 2)
     yield "# ranges: in ascending order, joined where they meet or touch, up to the last address; none of what is empty or sealed"
@@ -145,11 +150,11 @@ def entries():
     types = program(HALTS, *((f"cs{number}", "data", 16, STORE) for number in range(3)), ("cs3", "code", 16, CALL),
                     before=[*sealed("cs0", 9), *sealed("cs1", 0), *sealed("cs2", 9), "csealentry cs3, cs3"])
     yield enters(types, 2)
-    yield "# a range that is entered again: not told again where the same is reachable, and told again where something else is"
+    yield "# a range that is entered again: not told again where the same is reachable, and told again where something else is, as a link"
     again = ("addi a0, a0, -1", BY_SENTRY, "bne a0, zero, code", "csd zero, 0(cs11)")
-    yield enters(calling(by=SENTRY, before=["addi a0, zero, 3"], code=again, callee=("cjalr cnull, 0(cra)",)), 3)
+    yield enters(calling(by=SENTRY, before=["addi a0, zero, 3"], code=again, callee=("cjalr cnull, 0(cra)",)), 4)
     changes = (BY_SENTRY, "cmove cs2, cnull", BY_SENTRY, "csd zero, 0(cs11)")
-    yield enters(calling(LENT, by=SENTRY, code=changes, callee=("cjalr cnull, 0(cra)",)), 5)
+    yield enters(calling(LENT, by=SENTRY, code=changes, callee=("cjalr cnull, 0(cra)",)), 6)
     yield enters(calling(callee=("csd zero, 0(cs11)",)), 3)
     yield "# entered by a trap, by MRET, and within its range: that of PCC and not of a rule"
     kernel = program(HALTS, ("cs0", "entry", 16, CALL | ACCESS_SYSTEM_REGISTERS),

@@ -14,7 +14,7 @@ EXAMPLE = "a-start+a-call+a-door b-start+b-door"
 HONEST = [f"none {EXAMPLE} 0", f"none {EXAMPLE} 3", "none a-yield b 0", "none a-yield b-busy 10", "none a-keep b-look 0",
           "none a-local b 0", "none a-integer+a-allowed b 0", "none a-past+a-allowed+a-data b 0", "none a-write-code+a-allowed+a-data b 0"]
 PLANTED = [f"{name} {EXAMPLE} 0" for name in ("frame-left", "system-left", "seal-left", "two-pages", "table-left", "data-passed",
-                                              "data-keeps")]
+                                              "data-keeps", "sentry-left", "link-left")]
 # DDC is null but where a compartment fills it.
 FILLED = [f"ddc-left {EXAMPLE} 0", "ddc-left a-keep b-look 0"]
 LENT = ["none a-start+a-lend+a-call+a-lent b-start+b-borrow 0", "none a-start+a-lend+a-not-global+a-call+a-lent b-start+b-keeper 0"]

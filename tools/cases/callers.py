@@ -72,6 +72,11 @@ def lends():
     for first, how in ((GREATEST_SEALING_TYPE + 1, stops), (GREATEST_SEALING_TYPE, goes)):
         held = ("cs2", str(first), 4, UNSEAL), ("cs3", "9", 1, GLOBAL | SEAL)
         yield how(calling(*held, before=KEPT, callee=(HALT,)), by_caller("seal no"))
+    yield "# where it may enter by a seal; a sentry that nobody lent is refused"
+    sentry = ("cs2", "other", 16, CALL)
+    code = "execute within callee..+0x80", "enter within own..+4"
+    yield from only_lent(calling(sentry, before=["csealentry cs2, cs2"], other=("nop",), callee=(HALT,), code=("cmove cra, cnull", BY_PAIR)), *code)
+    yield stops(calling(("cs3", "data", 16, CALL), before=["csealentry cs3, cs3", *KEPT], callee=(HALT,)), by_caller(*code))
     yield "# PCC of the call too"
     pcc = calling(("cs3", "code", 0x80, CALL), before=KEPT, code=("cmove cra, cnull", BY_PAIR), callee=(HALT,))
     yield from only_lent(pcc, "execute within callee..+0x80")

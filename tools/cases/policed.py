@@ -8,7 +8,7 @@ from cases.program_lines import BAD, FILE, NO_IMAGE, NOT_HALTED, TRACE, case, fa
 from cases.quoting import quoted
 from cases.watched import GAP, TICK, ran
 from model import policy
-from model.devices import HALT, RAM, TIMER_COMPARE, TRANSMIT
+from model.devices import HALT, RAM, STATUS, TIMER, TIMER_COMPARE, TRANSMIT
 from model.images import file_v2
 from model.listings import table_text, with_names
 from model.rights import (ACCESS_SYSTEM_REGISTERS, CINVOKE, EXECUTE, GLOBAL, GREATEST_SEALING_TYPE, LOAD, LOAD_CAPABILITY, SEAL, STORE,
@@ -104,6 +104,8 @@ def inside(*said):
 # ---- cases
 
 WHOLE = "when pc in 0x80000000..+0x1000: "
+# The parts that a machine which is root breaks: it holds nothing sealed.
+BY_ROOT = [name for name in policy.PARTS if name not in (policy.ENTER, "types")]
 
 
 def first_image():
@@ -111,12 +113,13 @@ def first_image():
     for text in ("", "\n# nothing\n  \t\n", "A = 0..1\n", "when pc in 0x80000014..+0xfec: store no, transmit no\n",
                  "when pc in 0..0x80000000 0x80001000..0xffffffffffffffff: system no\n",
                  WHOLE + "transmit yes, halt yes, timer yes, system yes, seal yes, types none\n",
-                 WHOLE + "store within 0x80000000..+0xffffffff80000000, load within 0..+18446744073709551615 5..0xffffffffffffffff"
-                 " 0xffffffffffffffff..+1, execute within 0x80000000..0xc0000000 0xbfffffff..+0xffffffff40000001\n"):
+                 WHOLE + "store within 0x80000000..+0xffffffff80000000 control mtime receive status, load within 0..+18446744073709551615"
+                 " 5..0xffffffffffffffff 0xffffffffffffffff..+1, execute within 0x80000000..0xc0000000 0xbfffffff..+0xffffffff40000001\n"):
         yield goes(FIRST, text, named=False)
     yield "# each part is broken by a machine that is root, before its first step"
-    for name in policy.PARTS[:-1]:
+    for name in BY_ROOT:
         yield stops(FIRST, WHOLE + f"{name} no\n", named=False)
+    yield goes(FIRST, WHOLE + "enter no, types none\n", named=False)
     yield stops(FIRST, WHOLE + "store within 0x80000000..0xffffffffffffffff\n", named=False)
     yield "# before a later step: what was sent is sent, and the steps that were done are told"
     last = "when pc in 0x80000010..+4: seal no\n"
@@ -222,6 +225,34 @@ def devices():
             held = program(("cs0", str(first), length, perms), then=("j code",))
             yield (goes if may else stops)(held, said, 9)
     yield goes(program(("cs0", str(TRANSMIT), 8, STORE), before=sealed("cs0", 7), then=("j code",)), inside("transmit no"), 12)
+    yield "# a register's first byte counts for stores and loads, unless its name or its range is given; some have a part of their own"
+    for name, [(address, _)] in policy.REGISTERS.items():
+        spoken_of = (address, address + 8) in policy.SPOKEN_OF
+        for part, permission, free in (("store", STORE, spoken_of), ("load", LOAD, False)):
+            held = program(("cs0", str(address), 8, permission), then=("j code",))
+            rest = f"{part} within data..+16 code..+0x80"
+            yield (goes if free else stops)(held, inside(rest), 9)
+            yield goes(held, inside(f"{rest} {name}"), 9)
+            yield goes(held, inside(f"{rest} {address:#x}..+1"), 9)
+            yield (goes if free else stops)(held, inside(f"{rest} {address - 8:#x}..{address:#x} {address + 1:#x}..+7"), 9)
+            yield goes(held, inside("execute within code..+0x80", "load within code..+0x80" if part == "store" else "store no"), 9)
+    status = ("cs0", str(STATUS), 8, LOAD | STORE)
+    yield goes(program(("cs0", str(STATUS + 1), 7, LOAD | STORE), then=("j code",)), inside("store no", "load within code..+0x80"), 9)
+    yield stops(program(("cs0", str(STATUS), 1, LOAD), then=("j code",)), inside("store no", "load within code..+0x80"), 9)
+    yield goes(program(status, before=sealed("cs0", 7), then=("j code",)), inside("store no", "load within code..+0x80"), 12)
+    yield "# the console's input, its interrupt and the time: what a part for loads and one for stores leave out isn't used"
+    uses = program(HALTS, ("cs0", str(TRANSMIT), 32, LOAD | STORE), ("cs1", str(TIMER), 8, LOAD),
+                   then=("cld a0, 8(cs0)", "csd a0, 24(cs0)", "cld a0, 0(cs1)", "csb a0, 0(cs0)", "csd zero, 0(cs11)"))
+    loads = "load within code..+0x80 transmit receive status control mtime"
+    for text in (inside(loads.replace(" receive", "")), inside(loads.replace(" mtime", "")), inside(loads, "store within data..+16"),
+                 inside(loads, "store within control receive")):
+        yield stops(uses, text, options="--input keys", keys=b"A")
+    yield goes(uses, inside(loads, "store within control receive status"), options="--input keys", keys=b"A")
+    yield "# the names stand for ranges anywhere, and no line defines them"
+    yield goes(uses, "Console = transmit receive status control\nwhen pc in code..+0x80 halt: store within Console,"
+               " load within code..+0x80 Console mtime, transmit yes\n")
+    yield stops(program(HALTS), inside("store no", "halt no"))
+    yield goes(program(HALTS), inside("store no", "halt yes"))
 
 
 def system():
@@ -254,6 +285,48 @@ def seals():
         yield stops(program(HALTS, ("cs0", "data", 16, STORE), before=sealed("cs0", number)), inside(said))
     sentry = program(HALTS, ("cs0", "data", 16, CALL), before=["csealentry cs0, cs0"])
     yield goes(sentry, inside("types none", "execute within code..+0x80"))
+
+
+# A sentry or a pair's code half to `inner`, or to an address near it, 16 bytes in the data's place.
+OTHER_CODE = ("cs0", "data", 16, CALL | CINVOKE)
+
+
+def enters():
+    def holds(*before, then=("j code",)):
+        return program(HALTS, OTHER_CODE, before=before, then=then)
+    entry = ("csealentry cs0, cs0",)
+    code = "execute within code..+0x80"
+    yield "# a sentry, or the code of a pair: where its seal leads lies in the ranges for it or in those for fetches"
+    for seal in (entry, tuple(sealed("cs0", 5))):
+        yield stops(holds(*seal), inside(code, "enter no"), 12)
+        for said in ("enter within data..+1", "enter within 0..1 0x80000300..+4", "execute within code..+0x80 data..+1, enter no"):
+            yield goes(holds(*seal), inside(*([] if "execute" in said else [code]), said), 12)
+        yield stops(holds(*seal), inside(code, "enter within code..data 0x80000301..+100"), 12)
+        yield goes(holds(*seal), inside("enter no"), 12)
+        yield goes(holds(*seal), inside(code), 12)
+    yield "# an instruction in RAM and in the bounds: at a multiple of 4, all its four bytes"
+    for offset, how in ((3, stops), (12, stops), (13, stops), (16, goes), (-4, goes)):
+        yield how(holds(f"cincoffsetimm cs0, cs0, {offset}", *entry), inside(code, "enter no"), 13)
+    yield goes(holds("cincoffsetimm cs0, cs0, 7", *entry), inside(code, "enter within 0x80000304..+1"), 13)
+    low = program(HALTS, ("cs0", "0x7ffffff0", 16, CALL), before=entry, then=("j code",))
+    yield goes(low, inside(code, "enter no"), 12)
+    yield "# what isn't sealed is entered by no seal, nor is data"
+    yield goes(holds(), inside("execute within code..+0x80 data..+16", "enter no"), 12)
+    yield stops(holds(), inside(code, "enter no"), 12)
+    data = program(HALTS, ("cs0", "data", 16, STORE | CINVOKE), before=sealed("cs0", 5), then=("j code",))
+    yield goes(data, inside(code, "enter no", "store no"), 12)
+    yield "# code may seal its own as a sentry, for others; the link of a jump is one"
+    own = program(HALTS, then=("cjal cra, next", "next: csealentry cs1, cra", "cincoffsetimm cs2, cnull, 0", "csd zero, 0(cs11)"))
+    yield goes(own, inside(code, "enter no", "types none"))
+    yield "# a sentry to the kernel's code is as good as the kernel: by no other part is it seen"
+    root = ["cincoffsetimm cs0, ca0, 0x310", "csealentry cs0, cs0"]
+    takes = program(before=root, then=("nop", "cjalr cnull, 0(cs0)"),
+                    data=["cspecialrw ca0, pcc, cnull", "lui a1, 0x100", "csetaddr ca0, ca0, a1", "csd zero, 0(ca0)"])
+    rest = ", ".join(f"{name} no" for name in policy.OF_DEVICES)
+    yield goes(takes, inside(code, rest, "store no", "load no", "system no", "seal no", "types none", "keep no"))
+    yield stops(takes, inside(code, rest, "store no", "load no", "system no", "seal no", "types none", "keep no", "enter no"))
+    yield stops(takes, inside(code, "enter within data..+16"))
+    yield goes(takes, inside(code, "enter within 0x80000310..+4"))
 
 
 def moves():
@@ -370,9 +443,9 @@ def forms():
 FAULTY = {
     "P1": [(1, "store no"), (2, "A = 0..1\nallow A: store no"), (1, "when pc in 0..1 store no"), (1, "when pc of 0..1: store no"),
            (3, "# one\n\nwhen: store no # no code")],
-    "P2": [(1, "when pc in A: store no\nA = 0..1"), (1, "A = A"), (2, "A = 0..1\nB = A a"), (1, "when pc in code..none: store no"),
+    "P2": [(1, "when pc in 0..1: load within mtimes"), (1, "A = control..+4"), (1, "when pc in A: store no\nA = 0..1"), (1, "A = A"), (2, "A = 0..1\nB = A a"), (1, "when pc in code..none: store no"),
            (1, "A = none..+4"), (1, "when pc in 0..1: load within A")],
-    "P3": [(2, "A = 0..1\nA = 0..2"), (4, "A = 0..1\n\nB = A\nA = B")],
+    "P3": [(1, "mtime = 0..1"), (2, "A = control\nhalt = A"), (2, "A = 0..1\nA = 0..2"), (4, "A = 0..1\n\nB = A\nA = B")],
     "P4": [(1, "A = 0..0x"), (1, "A = 0..1x"), (1, "A = 0xg..0x10"), (1, "A = 0..+-1"), (1, "A = 0..+0x20000000000000000"),
            (1, "A = 0..99999999999999999999"), (1, "A = 1..+0xffffffffffffffff 2..+0xffffffffffffffff"),
            (1, "when pc in code..+1: types 1 0x3fffc"), (2, "\nwhen pc in code..+1: types 262140")],
@@ -387,7 +460,7 @@ FAULTY = {
     "P8": [(1, "when pc in 0..1: store"), (1, "when pc in 0..1: load within"), (1, "when pc in 0..1: halt"),
            (1, "when pc in 0..1: seal maybe"), (1, "when pc in 0..1: execute yes"), (1, "when pc in 0..1: transmit no no"),
            (1, "when pc in 0..1: types"), (1, "when pc in 0..1: store no within 0..1"), (1, "when pc in 0..1: timer within 0..1"),
-           (1, "when pc in 0..1: keep"), (1, "when pc in 0..1: keep yes"), (1, "when pc in 0..1: load no, keep within"),
+           (1, "when pc in 0..1: enter"), (1, "when pc in 0..1: enter yes"), (1, "when pc in 0..1: keep"), (1, "when pc in 0..1: keep yes"), (1, "when pc in 0..1: load no, keep within"),
            (1, "when pc in 0..1: or"), (2, "A = 0..1\nwhen pc in A: halt no, or callers, or caller"),
            (1, "when pc in 0..1: or caller caller, or"), (1, "when pc in 0..1: or # caller"), (1, "when pc in 0..1: store no or caller"),
            (2, "caller = 0..1\nwhen pc in 0..1: or within caller")],
@@ -426,6 +499,6 @@ def files_and_words():
 
 def files():
     lines = ["# a command line, files and streams => the status, what is opened and made, sent, told, and what stands in the file made"]
-    for part in (first_image, which, ranges, keeps, devices, system, seals, moves, unfetched, outside, forms, faulty, files_and_words):
+    for part in (first_image, which, ranges, keeps, devices, system, seals, enters, moves, unfetched, outside, forms, faulty, files_and_words):
         lines += part()
     yield "policies.txt", lines

@@ -10,7 +10,7 @@ import re
 from typing import NamedTuple, Optional
 
 from model.capabilities import base, has, is_unsealed, otype, perms, top
-from model.devices import HALT, RAM, TIMER_COMPARE, TRANSMIT
+from model.devices import CONTROL, HALT, RAM, RECEIVE, STATUS, TIMER, TIMER_COMPARE, TRANSMIT
 from model.reach import KEEPING, opened, opens_bytes, opens_system
 from model.rights import EXECUTE, GREATEST_SEALING_TYPE, LOAD, SEAL, STORE, UNSEAL
 from model.words import ONES, SPACE
@@ -23,8 +23,17 @@ NUMBER = re.compile(r"0x[0-9A-Fa-f]+|[0-9]+")
 
 # The parts that give ranges of RAM, with the permissions that they are about, those that say yes or no, and all of them in their order.
 OF_BYTES = {"store": STORE, "load": LOAD, "execute": EXECUTE, "keep": KEEPING}
+# The part about jumps through seals, which gives ranges too.
+ENTER = "enter"
 OF_DEVICES = {"transmit": TRANSMIT, "halt": HALT, "timer": TIMER_COMPARE}
-PARTS = (*OF_BYTES, *OF_DEVICES, "system", "seal", "types")
+PARTS = (*OF_BYTES, ENTER, *OF_DEVICES, "system", "seal", "types")
+# Those that give ranges.
+OF_RANGES = (*OF_BYTES, ENTER)
+# The device registers by the names that policies give them, eight bytes each: a part for stores or loads is about them too. Those with a
+# part of their own are none of the part for stores.
+REGISTERS = {name: [(first, first + 8)] for name, first in (("halt", HALT), ("mtimecmp", TIMER_COMPARE), ("mtime", TIMER),
+             ("transmit", TRANSMIT), ("receive", RECEIVE), ("status", STATUS), ("control", CONTROL))}
+SPOKEN_OF = [(first, first + 8) for first in OF_DEVICES.values()]
 # The part that allows code what its caller could do.
 OR = "or"
 
@@ -97,11 +106,12 @@ def part(name, words, names, labels):
         return []
     if name == "types" and words:
         return [number(word, GREATEST_SEALING_TYPE) for word in words]
-    if name in OF_BYTES and words == ["no"]:
-        return []
-    if name in OF_BYTES and words[:1] == ["within"] and words[1:]:
-        return ranges(words[1:], names, labels)
-    if name in OF_BYTES or name == "types" or words not in (["yes"], ["no"]):
+    more = SPOKEN_OF if name == "store" else []
+    if name in OF_RANGES and words == ["no"]:
+        return [*more]
+    if name in OF_RANGES and words[:1] == ["within"] and words[1:]:
+        return ranges(words[1:], names, labels) + more
+    if name in OF_RANGES or name == "types" or words not in (["yes"], ["no"]):
         raise Malformed("P8")
     return words == ["yes"]
 
@@ -122,7 +132,7 @@ def parts(text, names, labels):
 def read_all(text, labels):
     """The rules of a text and its ranges of any code, with a table's labels and their addresses; or the code and the line of its first
     fault."""
-    names, rules, any_code = {}, [], []
+    names, rules, any_code = dict(REGISTERS), [], []
     for line, whole in enumerate(text.split("\n"), 1):
         said = whole.partition("#")[0].strip(BLANKS)
         head, colon, rest = said.partition(":")
@@ -176,10 +186,30 @@ def bytes_of(value, name):
     return (-(-first // 16) * 16, end // 16 * 16) if name == "keep" else (first, end)
 
 
+def gives_devices(value, name, allowed):
+    """Whether what a part allows has each device register that begins in its bounds: the part for stores and the one for loads."""
+    return name not in ("store", "load") or all(is_in(allowed, first) for [(first, _)] in REGISTERS.values() if base(value) <= first < top(value))
+
+
+def leads_to(value):
+    """The instruction that a jump through the seal of a value leads to, if that lies in RAM and in its bounds."""
+    address = value[1] & -4
+    inside = max(base(value), RAM) <= address and address + 4 <= top(value)
+    return address if not is_unsealed(value) and has(value, EXECUTE) and inside else None
+
+
+def allowed_by(rule, name):
+    """What a part of a rule allows; the one for jumps through seals what may be fetched too."""
+    fetched = rule.allowed.get("execute", [(0, SPACE)])
+    return rule.allowed[name] + fetched if name == ENTER else rule.allowed[name]
+
+
 def breaks(value, name, allowed):
     """Whether a capability breaks a part that allows so much."""
     if name in OF_BYTES:
-        return opens(value, name) and not lies_within(allowed, *bytes_of(value, name))
+        return opens(value, name) and not (lies_within(allowed, *bytes_of(value, name)) and gives_devices(value, name, allowed))
+    if name == ENTER:
+        return leads_to(value) is not None and not is_in(allowed, leads_to(value))
     if name == "types":
         return otype(value) <= GREATEST_SEALING_TYPE and otype(value) not in allowed
     if allowed:
@@ -203,6 +233,8 @@ def opened_by(found, name):
     if name in OF_BYTES:
         return [(base(value), top(value)) for value, *_ in found if opens(value, name)]
     opening = [value for value, *_ in found if breaks(value, name, [])]
+    if name == ENTER:
+        return [(leads_to(value), leads_to(value) + 1) for value in opening]
     return [otype(value) for value in opening] if name == "types" else bool(opening)
 
 
@@ -227,15 +259,15 @@ def applies(rule, at):
 
 def breaches(rules, at, found):
     """Of the members of a state each part of each rule that applies and that one breaks, and the first that does."""
-    return [Breach(rule, next(member for member, (value, *_) in enumerate(found) if breaks(value, name, rule.allowed[name])), name)
+    return [Breach(rule, next(member for member, (value, *_) in enumerate(found) if breaks(value, name, allowed_by(rule, name))), name)
             for rule in rules if applies(rule, at) for name in PARTS
-            if name in rule.allowed and any(breaks(value, name, rule.allowed[name]) for value, *_ in found)]
+            if name in rule.allowed and any(breaks(value, name, allowed_by(rule, name)) for value, *_ in found)]
 
 
 def first_breach(rules, at, found) -> Optional[Breach]:
     """Of the members of a state the first rule that applies and that one breaks, the first that does, and the first part that it breaks."""
     return next((Breach(rule, member, name) for rule in rules if applies(rule, at) for member, (value, *_) in enumerate(found)
-                 for name in PARTS if name in rule.allowed and breaks(value, name, rule.allowed[name])), None)
+                 for name in PARTS if name in rule.allowed and breaks(value, name, allowed_by(rule, name))), None)
 
 
 # ---- what is said
@@ -273,6 +305,9 @@ def entry(code, found):
     def said(name):
         if name in OF_BYTES:
             spans = opened(found, OF_BYTES[name])
+        if name == ENTER:
+            spans = sorted(set(opened_by(found, name)))
+        if name in OF_RANGES:
             return " ".join(["within", *(range_text(*span) for span in spans)]) if spans else "no"
         if name == "types":
             return " ".join(map(str, sorted(set(opened_by(found, name))))) or "none"

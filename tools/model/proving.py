@@ -141,7 +141,7 @@ def check(machine, any_code, rules, found, labels):
     for rule in rules:
         for value, place in found:
             for name in policy.PARTS:
-                if name in rule.allowed and policy.breaks(value, name, rule.allowed[name]):
+                if name in rule.allowed and policy.breaks(value, name, policy.allowed_by(rule, name)):
                     raise Unshown(f"line {rule.line}: {name}\n  held  {where(place)}")
 
 

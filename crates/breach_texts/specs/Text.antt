@@ -3,7 +3,7 @@ use Rattle.std.specs.Prelude.{ℕ, List, [], ◌++◌, codes, decimal}
 use Rattle.steps.specs.State.{State}
 use Rattle.symbols.specs.Symbols.{Symbol}
 use Rattle.policy.specs.declared.rule.Ban.{Ban}
-use Rattle.policy.specs.declared.rule.Ban.TheVariants.{Store, Load, Execute, Keep, Transmit, Halt, Timer, System, Seal, Types}
+use Rattle.policy.specs.declared.rule.Ban.TheVariants.{Store, Load, Execute, Keep, Enter, Transmit, Halt, Timer, System, Seal, Types}
 use Rattle.policy.specs.declared.refused.Refused.{Refused}
 use Rattle.explain.specs.StandingText.{standing_text}
 use Rattle.reach.specs.Reach.{members_in}
@@ -16,6 +16,7 @@ ban_word Store = codes "store"
 ban_word Load = codes "load"
 ban_word Execute = codes "execute"
 ban_word Keep = codes "keep"
+ban_word Enter = codes "enter"
 ban_word Transmit = codes "transmit"
 ban_word Halt = codes "halt"
 ban_word Timer = codes "timer"

@@ -31,6 +31,7 @@ pub fn ban_word(ban: Ban) -> &'static str
         Ban::Load => "load",
         Ban::Execute => "execute",
         Ban::Keep => "keep",
+        Ban::Enter => "enter",
         Ban::Transmit => "transmit",
         Ban::Halt => "halt",
         Ban::Timer => "timer",

@@ -67,6 +67,7 @@ part_number ban.System = 6
 part_number ban.Seal = 7
 part_number ban.Types = 8
 part_number ban.Keep = 9
+part_number ban.Enter = 10
 
 -- what C gets of it, where these are the lines of the rules
 abbrev pub c_breach : List ℕ → Option RunBreach → Breach

@@ -65,6 +65,7 @@ fn part_number(part: Ban) -> u32
         Ban::Seal => 7,
         Ban::Types => 8,
         Ban::Keep => 9,
+        Ban::Enter => 10,
     }
 }
 

@@ -70,7 +70,7 @@ module _ (vs : List CapValue) (harmless : AreHarmless vs) (rules : List Terms) (
   none-breaks grounded broken =
       let covered = grounded.covered in
       elim (breaks-outer v covered.source covered.within rule broken.ban broken.breaks) [
-        | inl outer ↦ breaks-none broken.ban covered.source covered.member outer
+        | inl outer ↦ keep rule there covered.source covered.member outer
         | inr is ↦ types-none grounded (subst (λ part. Breaks rule part v) is broken.breaks)
       ]
 

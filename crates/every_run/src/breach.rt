@@ -12,11 +12,12 @@ use policy::{Ban, Rule, breaks};
 use reached::{Member, Place};
 
 /// The parts of a rule, in their order.
-const BANS: [Ban; 10] = [
+const BANS: [Ban; 11] = [
     Ban::Store,
     Ban::Load,
     Ban::Execute,
     Ban::Keep,
+    Ban::Enter,
     Ban::Transmit,
     Ban::Halt,
     Ban::Timer,

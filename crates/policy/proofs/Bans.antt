@@ -3,11 +3,11 @@ use Rattle.std.proofs.Common.{ℕ, ◌<◌, List, [], ◌∷◌}
 use Rattle.cap_bounds.specs.CapValue.{CapValue}
 use Rattle.policy.specs.Terms.{Terms}
 use Rattle.policy.specs.declared.rule.Ban.{Ban}
-use Rattle.policy.specs.declared.rule.Ban.TheVariants.{Store, Load, Execute, Keep, Transmit, Halt, Timer, System, Seal, Types}
+use Rattle.policy.specs.declared.rule.Ban.TheVariants.{Store, Load, Execute, Keep, Enter, Transmit, Halt, Timer, System, Seal, Types}
 use Rattle.policy.specs.Rule.{Breaks, place_of}
 
 abbrev pub bans : List Ban
-bans = Store ∷ Load ∷ Execute ∷ Keep ∷ Transmit ∷ Halt ∷ Timer ∷ System ∷ Seal ∷ Types ∷ []
+bans = Store ∷ Load ∷ Execute ∷ Keep ∷ Enter ∷ Transmit ∷ Halt ∷ Timer ∷ System ∷ Seal ∷ Types ∷ []
 
 -- none of the parts before a place is broken
 abbrev pub HoldBelow : Terms → CapValue → ℕ → Type 0

@@ -54,14 +54,14 @@ module _ (rule : Terms) (s : State) (memory : IsMemory s.memory) (certified : Is
         let top = opens.top in
         keeps-reachable c before (record {
           ban = ban.Load;
-          breaks = record {
+          breaks = inl (record {
             byte = granule;
             in_ram = place.0;
             outside = outside;
             lets = record { unsealed = opens.unsealed; permitted = opens.loads };
             base = opens.base;
             top = omega arith;
-          };
+          });
         })
   ]
 

@@ -104,7 +104,7 @@ module _ (rule : Terms) (s : State) (keep : (v : CapValue) → IsReachable s v �
         }))
       ]
 
-  fetched-within : (pc a : ℕ) → fetched_at s ≡ Some pc → pc ≤ a → a < pc + 4 → IsInOne rule.execute a
+  pub fetched-within : (pc a : ℕ) → fetched_at s ≡ Some pc → pc ≤ a → a < pc + 4 → IsInOne rule.execute a
   fetched-within pc a is low high =
       let both = fetched-is s pc is in
       let same : pc_of s ≡ pc = both.1 in
@@ -112,10 +112,3 @@ module _ (rule : Terms) (s : State) (keep : (v : CapValue) → IsReachable s v �
 
 pub executes : (rule : Terms) (s : State) → Holds rule s → (v : CapValue) → IsReachable s v → Breaks rule ban.Execute v → ⊥
 executes rule s holds v reachable broken = holds v reachable (record { ban = ban.Execute; breaks = broken })
-
-pub runs-by : (rule : Terms) (s : State) → Holds rule s → (e : Event) → IsState s → RunsBy rule e s
-runs-by rule s holds e is = record {
-  fetched = fetched-within rule s (executes rule s holds);
-  next = λ plain. fetched-within rule (after e s) (λ v reachable.
-      keeps-execute rule s holds v ((event-grows_not s is e plain).grounded v reachable));
-}

@@ -25,7 +25,7 @@ use Rattle.policy.specs.Terms.{Terms}
 use Rattle.policy.specs.declared.rule.Ban.TheVariants as ban
 use Rattle.policy.specs.Watch.{Holds, HoldEach, DiffersOutside, LearnsBy, KeepsTo, KeepsToEach}
 use Rattle.policy.proofs.Covers.{in_or_out}
-use Rattle.policy.proofs.Fetching.{runs-by}
+use Rattle.policy.proofs.Entered.{runs-by}
 use Rattle.policy.proofs.Sealing.{seals-by}
 use Rattle.policy.proofs.Leaving.{leaves-by}
 use Rattle.policy.proofs.Memories.{AreSameWhere, same-number, same-value}
@@ -105,14 +105,14 @@ module _ (rule : Terms) where
         | inl one ↦ inl one
         | inr outside ↦ absurd (holds readable.source readable.reachable (record {
           ban = ban.Load;
-          breaks = record {
+          breaks = inl (record {
             byte = a;
             in_ram = low;
             outside = outside;
             lets = record { unsealed = readable.opens.unsealed; permitted = loads };
             base = readable.opens.base;
             top = readable.opens.top;
-          };
+          });
         }))
       ]
       | inr fetches ↦ elim (in_or_out rule.execute a) [

@@ -6,7 +6,7 @@ use Rattle.base.specs.Ram.{ram_base}
 use Rattle.cap_bounds.specs.CapValue.{CapValue}
 use Rattle.cap_rights.specs.Permission.{permits}
 use Rattle.cap_rights.specs.declared.permission.Permission.TheVariants.{Global}
-use Rattle.devices.specs.Devices.{halt, timer_compare, transmit}
+use Rattle.devices.specs.Devices.{control_register, halt, timer_compare, transmit}
 use Rattle.steps.specs.declared.effect.Effect.{Effect}
 use Rattle.steps.specs.declared.effect.Effect.TheVariants as effect
 use Rattle.steps.specs.declared.event.Event.{Event}
@@ -110,14 +110,14 @@ module _ (s : State) where
     pub not_stored : (a : ℕ) → ram_base ≤ a → (IsInOne rule.store a → ⊥) → Not (IsWritable s a)
     not_stored a low outside = λ writable. holds writable.source writable.reachable (record {
       ban = ban.Store;
-      breaks = record {
+      breaks = inl (record {
         byte = a;
         in_ram = low;
         outside = outside;
         lets = record { unsealed = writable.opens.unsealed; permitted = writable.opens.stores };
         base = writable.opens.base;
         top = writable.opens.top;
-      };
+      });
     })
 
     not_sent : rule.transmit ≡ false → Not (IsWritable s transmit)
@@ -129,6 +129,19 @@ module _ (s : State) where
 
     not_set : rule.timer ≡ false → Not (IsWritable s timer_compare)
     not_set banned = λ writable. holds writable.source writable.reachable (record { ban = ban.Timer; breaks = (banned, writable.opens) })
+
+    console_kept : (IsInOne rule.store control_register → ⊥) → Not (IsWritable s control_register)
+    console_kept outside = λ writable. holds writable.source writable.reachable (record {
+      ban = ban.Store;
+      breaks = inr (record {
+        register = control_register;
+        answers = refl;
+        outside = outside;
+        lets = record { unsealed = writable.opens.unsealed; permitted = writable.opens.stores };
+        base = writable.opens.base;
+        top = writable.opens.top;
+      });
+    })
 
     no_system : rule.system ≡ false → Not (HasSystem s)
     no_system banned = λ has. holds has.source has.reachable (record { ban = ban.System; breaks = (banned, has.opens) })
@@ -166,5 +179,6 @@ module _ (s : State) where
           silent = λ banned. event-silent s is e (not_sent banned);
           halt = λ banned. places.devices.halt (not_halted banned);
           timer = λ banned. places.devices.kept 0 (not_set banned);
+          console = λ outside. places.devices.control (console_kept outside);
           system = λ other banned. system-after is e other (no_system banned);
         }

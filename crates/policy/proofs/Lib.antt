@@ -4,7 +4,9 @@ pub mod Rights
 pub mod Passing
 pub mod Leaving
 pub mod Unsealing
+pub mod Leads
 pub mod Fetching
+pub mod Entered
 pub mod Sealing
 pub mod Memories
 pub mod Granules

@@ -1,7 +1,7 @@
 -- What breaks a rule is broken by whatever has its rights; so a rule that holds goes on holding over plain events, unless new seals may
 -- break it.
 use Rattle.std.proofs.Common.{◌≡◌, ℕ, true, false, List, Option, None, Some, refl, arith, subst, inl, inr, ◌⊎◌}
-use Rattle.std.proofs.lemmas.Bool.{true≢false}
+use Rattle.std.proofs.lemmas.Bool.{cases_Bool, true≢false}
 use Rattle.std.specs.Prelude.{MatchOption, IsNone}
 use Rattle.base.specs.ObjectType.{is_reserved}
 use Rattle.cap_bounds.specs.CapValue.{CapValue, is_sealed, value_otype}
@@ -25,7 +25,8 @@ use Rattle.reach.specs.declared.range.Range.{Range}
 use Rattle.policy.specs.Terms.{Terms}
 use Rattle.policy.specs.declared.rule.Ban.{Ban}
 use Rattle.policy.specs.declared.rule.Ban.TheVariants as ban
-use Rattle.policy.specs.Rule.{Lets, OpensOutside, KeepsOutside, OpensSealing, IsSealedBeyond, Breaks, BreaksRule}
+use Rattle.policy.specs.Rule.{Lets, OpensOutside, OpensDevice, KeepsOutside, EntersOutside, OpensSealing, IsSealedBeyond}
+use Rattle.policy.specs.Rule.{entry, Breaks, BreaksRule}
 use Rattle.policy.specs.Watch.{Holds}
 use Rattle.policy.specs.Known.{IsLasting}
 
@@ -50,6 +51,28 @@ module _ (v c : CapValue) (within : IsInRightsOf v c) where
         base = omega arith;
         top = omega arith;
       }
+
+  device-outer : (permission : Permission) (ranges : List Range) → OpensDevice permission ranges v → OpensDevice permission ranges c
+  device-outer permission ranges opens =
+      let both = unsealed-outer v c opens.lets.unsealed within in
+      let base = both.1.base in
+      let top = both.1.top in
+      let low = opens.base in
+      let high = opens.top in
+      record {
+        register = opens.register;
+        answers = opens.answers;
+        outside = opens.outside;
+        lets = lets-outer permission opens.lets;
+        base = omega arith;
+        top = omega arith;
+      }
+
+  uses-outer : (permission : Permission) (ranges : List Range)
+      → OpensOutside permission ranges v ⊎ OpensDevice permission ranges v
+      → OpensOutside permission ranges c ⊎ OpensDevice permission ranges c
+  uses-outer permission ranges (inl memory) = inl (outside-outer permission ranges memory)
+  uses-outer permission ranges (inr device) = inr (device-outer permission ranges device)
 
   keeping-outer : (ranges : List Range) → KeepsOutside ranges v → KeepsOutside ranges c
   keeping-outer ranges keeps = record {
@@ -84,17 +107,47 @@ module _ (v c : CapValue) (within : IsInRightsOf v c) where
         top = omega arith;
       }
 
-  -- the capability breaks each part of a rule that the value breaks, but that of types
-  pub breaks-outer : (rule : Terms) (part : Ban) → Breaks rule part v → Breaks rule part c ⊎ (part ≡ ban.Types)
-  breaks-outer rule ban.Store broken = inl (outside-outer permission.Store rule.store broken)
-  breaks-outer rule ban.Load broken = inl (outside-outer permission.Load rule.load broken)
-  breaks-outer rule ban.Execute broken = inl (outside-outer permission.Execute rule.execute broken)
-  breaks-outer rule ban.Keep broken = inl (keeping-outer rule.keep broken)
-  breaks-outer rule ban.Transmit broken = inl (broken.0, OpensStore-outer v c transmit within broken.1)
-  breaks-outer rule ban.Halt broken = inl (broken.0, OpensStore-outer v c halt within broken.1)
-  breaks-outer rule ban.Timer broken = inl (broken.0, OpensStore-outer v c timer_compare within broken.1)
-  breaks-outer rule ban.System broken = inl (broken.0, OpensSystem-outer v c within broken.1)
-  breaks-outer rule ban.Seal broken = inl (broken.0, sealing-outer broken.1)
+  -- sealed it is that value; else its fetches reach where the seal leads
+  entering-outer : (enter execute : List Range) → EntersOutside enter execute v
+      → EntersOutside enter execute c ⊎ OpensOutside permission.Execute execute c
+  entering-outer enter execute enters = elim (cases_Bool (is_sealed c)) [
+    | inl sealed ↦ inl (subst (EntersOutside enter execute) (within.of_sealed sealed) enters)
+    | inr unsealed ↦
+        let inside = within.of_unsealed unsealed in
+        let base = inside.base in
+        let top = inside.top in
+        let low = enters.base in
+        let high = enters.top in
+        inr (record {
+          byte = entry v;
+          in_ram = enters.in_ram;
+          outside = enters.not_fetched;
+          lets = record { unsealed = unsealed; permitted = permits-outer v c permission.Execute inside enters.executes };
+          base = omega arith;
+          top = omega arith;
+        })
+  ]
+
+  enters-breaks : (rule : Terms) → EntersOutside rule.enter rule.execute v → BreaksRule rule c
+  enters-breaks rule enters = elim (entering-outer rule.enter rule.execute enters) [
+    | inl same ↦ record { ban = ban.Enter; breaks = same }
+    | inr fetches ↦ record { ban = ban.Execute; breaks = fetches }
+  ]
+
+  -- the capability breaks the rule if the value breaks a part of it other than that of types
+  pub breaks-outer : (rule : Terms) (part : Ban) → Breaks rule part v → BreaksRule rule c ⊎ (part ≡ ban.Types)
+  breaks-outer rule ban.Store broken = inl (record { ban = ban.Store; breaks = uses-outer permission.Store rule.store broken })
+  breaks-outer rule ban.Load broken = inl (record { ban = ban.Load; breaks = uses-outer permission.Load rule.load broken })
+  breaks-outer rule ban.Execute broken = inl (record { ban = ban.Execute; breaks = outside-outer permission.Execute rule.execute broken })
+  breaks-outer rule ban.Keep broken = inl (record { ban = ban.Keep; breaks = keeping-outer rule.keep broken })
+  breaks-outer rule ban.Enter broken = inl (enters-breaks rule broken)
+  breaks-outer rule ban.Transmit broken =
+      inl (record { ban = ban.Transmit; breaks = (broken.0, OpensStore-outer v c transmit within broken.1) })
+  breaks-outer rule ban.Halt broken = inl (record { ban = ban.Halt; breaks = (broken.0, OpensStore-outer v c halt within broken.1) })
+  breaks-outer rule ban.Timer broken =
+      inl (record { ban = ban.Timer; breaks = (broken.0, OpensStore-outer v c timer_compare within broken.1) })
+  breaks-outer rule ban.System broken = inl (record { ban = ban.System; breaks = (broken.0, OpensSystem-outer v c within broken.1) })
+  breaks-outer rule ban.Seal broken = inl (record { ban = ban.Seal; breaks = (broken.0, sealing-outer broken.1) })
   breaks-outer rule ban.Types broken = inr refl
 
 -- ---- seals
@@ -143,13 +196,13 @@ module _ (rule : Terms) (s : State) (holds : Holds rule s) where
   keeps-types v (inr none) earned broken = no-types v rule.types none broken
 
   module _ (v : CapValue) (earned : IsGrounded s v) where
-    of_source : (part : Ban) → Breaks rule part earned.covered.source → ⊥
-    of_source part broken = holds earned.covered.source earned.covered.reachable (record { ban = part; breaks = broken })
+    of_source : BreaksRule rule earned.covered.source → ⊥
+    of_source = holds earned.covered.source earned.covered.reachable
 
     keeps-each : (part : Ban) → IsLasting rule → Breaks rule part v → ⊥
     keeps-each part lasting broken =
         elim (breaks-outer v earned.covered.source earned.covered.within rule part broken) [
-          | inl outer ↦ of_source part outer
+          | inl outer ↦ of_source outer
           | inr is ↦ keeps-types v lasting earned (subst (λ other. Breaks rule other v) is broken)
         ]
 
@@ -157,7 +210,7 @@ module _ (rule : Terms) (s : State) (holds : Holds rule s) where
   pub keeps-execute : (v : CapValue) → IsGrounded s v → Breaks rule ban.Execute v → ⊥
   keeps-execute v earned broken =
       elim (breaks-outer v earned.covered.source earned.covered.within rule ban.Execute broken) [
-        | inl outer ↦ of_source v earned ban.Execute outer
+        | inl outer ↦ of_source v earned outer
         | inr is ↦ absurd (execute-types is)
       ]
 

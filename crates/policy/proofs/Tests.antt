@@ -1,9 +1,12 @@
 -- The tests mean what policies say.
-use Rattle.std.proofs.Common.{◌≡◌, ℕ, ◌+◌, ◌*◌, ◌/◌, ◌%◌, ◌<◌, ◌≤◌, List, [], ◌∷◌, Option, None, Some, sym, ◌∙◌, inl, inr, arith, zero, suc}
+use Rattle.std.proofs.Common.{◌≡◌, ℕ, ◌+◌, ◌*◌, ◌/◌, ◌%◌, ◌<◌, ◌≤◌, List, [], ◌∷◌, ◌++◌, Option, None, Some, sym, ◌∙◌}
+use Rattle.std.proofs.Common.{inl, inr, ◌⊎◌, arith, zero, suc, refl, subst}
 use Rattle.std.proofs.lemmas.Bool.{and_from, and_parts, or_cases, or_left, or_right, not-true, not_from_false, cases_lt, cases_Bool}
 use Rattle.std.proofs.lemmas.Bool.{iff_false}
 use Rattle.std.proofs.lemmas.Bool.{ltb-true, leb-true, leb-false, lt-ltb, le-leb, lt-leb, eqb-true, eq-eqb, true≢false, false≢true}
-use Rattle.std.specs.List.{list_any}
+use Rattle.std.proofs.lemmas.List.Quantifiers.{position-Some}
+use Rattle.std.specs.List.{list_all, list_any}
+use Rattle.std.specs.Option.{is_some}
 use Rattle.std.specs.Prelude.{◌↔◌, ◌&&◌, ◌||◌, ◌==◌, not, nat_le, nat_lt, min, max, Bool, true, false, Contains, MatchOption}
 use Rattle.std.specs.Prelude.{length, get_or, option_map, unwrap_or}
 use Rattle.base.specs.declared.otype.TheConstants.{FIRST_RESERVED}
@@ -15,19 +18,22 @@ use Rattle.cap_rights.specs.declared.permission.Permission.TheVariants as permis
 use Rattle.cap_rights.specs.Permission.{permits}
 use Rattle.cap_rights.specs.Opens.{allows, opens_store, opens_system}
 use Rattle.cap_rights.specs.OpensLaws.{allows-parts, allows-from, opens_store-means, opens_system-means}
-use Rattle.devices.specs.Devices.{halt, timer_compare, transmit}
+use Rattle.devices.specs.Devices.{halt, timer, transmit, receive, status, control_register, timer_compare}
+use Rattle.devices.specs.Devices.{is_named, is_register, kept_at}
+use Rattle.devices.specs.declared.map.TheConstants.{KEPT}
 use Rattle.reach.specs.declared.range.Range.{Range}
 use Rattle.reach.specs.Opens.{StoresLocals}
 use Rattle.reach.specs.Ranges.{IsInOne}
 use Rattle.reach.proofs.Determined.{head-in, rest-in, in-cases, none-in}
 use Rattle.policy.specs.Terms.{Terms}
 use Rattle.policy.specs.declared.rule.Ban.{Ban}
-use Rattle.policy.specs.declared.rule.Ban.TheVariants.{Store, Load, Execute, Keep, Transmit, Halt, Timer, System, Seal, Types}
+use Rattle.policy.specs.declared.rule.Ban.TheVariants.{Store, Load, Execute, Keep, Enter, Transmit, Halt, Timer, System, Seal, Types}
 use Rattle.policy.specs.Cover.{HasGap}
-use Rattle.policy.specs.Rule.{Lets, OpensOutside, KeepsOutside, OpensSealing, IsSealedBeyond, Breaks}
+use Rattle.policy.specs.Rule.{Lets, OpensOutside, OpensDevice, KeepsOutside, EntersOutside, OpensSealing, IsSealedBeyond, Breaks, entry}
+use Rattle.policy.specs.Opened.{is_enterable}
 use Rattle.policy.specs.Watch.{Applies, IsAbout}
 use Rattle.policy.specs.Tests.{applies, breaks, is_about, is_in_one, is_sealed_beyond, keeps_outside, leaves_out, opens_outside}
-use Rattle.policy.specs.Tests.{opens_sealing}
+use Rattle.policy.specs.Tests.{enters_outside, has_outside, opens_device, opens_sealing, registers}
 
 -- two tests of one fact
 pub same_test : (a b : Bool) {P : Type 0} → ((a ≡ true) ↔ P) → ((b ≡ true) ↔ P) → a ≡ b
@@ -54,6 +60,18 @@ in-one (r ∷ rs) a one = elim (in-cases r rs a one) [
       or_left (nat_le r.from a && nat_lt a r.to) (is_in_one rs a)
       (and_from (nat_le r.from a) (nat_lt a r.to) (le-leb r.from a here.low) (lt-ltb a r.to here.high))
   | inr there ↦ or_right (nat_le r.from a && nat_lt a r.to) (is_in_one rs a) (in-one rs a there)
+]
+
+pub in-it : (ranges : List Range) (a : ℕ) → (is_in_one ranges a ≡ true) ↔ IsInOne ranges a
+in-it ranges a = (one-in ranges a, in-one ranges a)
+
+none-of : (ranges : List Range) (a : ℕ) → not (is_in_one ranges a) ≡ true → IsInOne ranges a → ⊥
+none-of ranges a out one = true≢false (sym (in-one ranges a one) ∙ not-true (is_in_one ranges a) out)
+
+of-none : (ranges : List Range) (a : ℕ) → (IsInOne ranges a → ⊥) → not (is_in_one ranges a) ≡ true
+of-none ranges a outside = elim (cases_Bool (is_in_one ranges a)) [
+  | inl one ↦ absurd (outside (one-in ranges a one))
+  | inr out ↦ not_from_false (is_in_one ranges a) out
 ]
 
 gap-out : (ranges : List Range) (from to : ℕ) → leaves_out ranges from to ≡ true → HasGap ranges from to
@@ -125,6 +143,43 @@ from-granule base granule aligned low = grind arith
 to-granule : (top granule : ℕ) → granule % 16 ≡ 0 → granule + 16 ≤ top → granule + 16 ≤ granules_to top
 to-granule top granule aligned high = grind arith
 
+-- ---- device registers
+
+-- what passes a test is one of those that pass it
+among : (test : ℕ → Bool) (a : ℕ) (rs : List ℕ) → list_any (λ r. a == r) rs ≡ true → test a ≡ true → list_any test rs ≡ true
+among test a [] is passes = is
+among test a (r ∷ rs) is passes = elim (or_cases (a == r) (list_any (λ r. a == r) rs) is) [
+  | inl here ↦ or_left (test r) (list_any test rs) (subst (λ x. test x ≡ true) (eqb-true a r here) passes)
+  | inr there ↦ or_right (test r) (list_any test rs) (among test a rs there passes)
+]
+
+among-more : (test : ℕ → Bool) (rs more : List ℕ) → list_any test rs ≡ true → list_any test (rs ++ more) ≡ true
+among-more test [] more is = absurd (false≢true is)
+among-more test (r ∷ rs) more is = elim (or_cases (test r) (list_any test rs) is) [
+  | inl here ↦ or_left (test r) (list_any test (rs ++ more)) here
+  | inr there ↦ or_right (test r) (list_any test (rs ++ more)) (among-more test rs more there)
+]
+
+-- a register that only keeps a number is mtimecmp
+kept-by : (a : ℕ) (o : Option ℕ) → kept_at a ≡ o → is_some o ≡ true → timer_compare ≡ a
+kept-by a None at is = absurd (false≢true is)
+kept-by a (Some zero) at is = eqb-true _ _ (position-Some (λ place. place == a) KEPT 0 0 at).1
+kept-by a (Some (suc i)) at is =
+    let inside : suc i < 1 = (position-Some (λ place. place == a) KEPT (suc i) 0 at).0 in
+    absurd (omega (arith, inside))
+
+kept-there : (a : ℕ) → is_some (kept_at a) ≡ true → timer_compare ≡ a
+kept-there a is = kept-by a (kept_at a) refl is
+
+register-among : (test : ℕ → Bool) (a : ℕ) → is_register a ≡ true → test a ≡ true → list_any test registers ≡ true
+register-among test a is passes = elim (or_cases (is_named a) (is_some (kept_at a)) is) [
+  | inl named ↦
+      among-more test (halt ∷ timer ∷ transmit ∷ receive ∷ status ∷ control_register ∷ []) (timer_compare ∷ [])
+      (among test a (halt ∷ timer ∷ transmit ∷ receive ∷ status ∷ control_register ∷ []) named passes)
+  | inr kept ↦
+      among test a registers (subst (λ x. list_any (λ r. x == r) registers ≡ true) (kept-there a kept) refl) passes
+]
+
 -- ---- capabilities
 
 module _ (c : CapValue) where
@@ -153,6 +208,59 @@ module _ (c : CapValue) where
         let ram = opens.in_ram in
         and_from (allows p c) (leaves_out ranges (max (value_base c) ram_base) (value_top c)) ((is-let p).1 opens.lets)
         (out-gap ranges (max (value_base c) ram_base) (value_top c) opens.byte (omega arith) opens.top opens.outside),
+  )
+
+  -- an address that is left out
+  left-out : (ranges : List Range) (a : ℕ) → has_outside ranges c a ≡ true
+      → (value_base c ≤ a) × (a < value_top c) × (IsInOne ranges a → ⊥)
+  left-out ranges a is =
+      let both = and_parts (nat_le (value_base c) a && nat_lt a (value_top c)) (not (is_in_one ranges a)) is in
+      let bounds = and_parts (nat_le (value_base c) a) (nat_lt a (value_top c)) both.0 in (
+        leb-true (value_base c) a bounds.0,
+        ltb-true a (value_top c) bounds.1,
+        none-of ranges a both.1,
+      )
+
+  out-left : (ranges : List Range) (a : ℕ) → value_base c ≤ a → a < value_top c → (IsInOne ranges a → ⊥) → has_outside ranges c a ≡ true
+  out-left ranges a base top outside =
+      and_from (nat_le (value_base c) a && nat_lt a (value_top c)) (not (is_in_one ranges a))
+      (and_from (nat_le (value_base c) a) (nat_lt a (value_top c)) (le-leb (value_base c) a base) (lt-ltb a (value_top c) top))
+      (of-none ranges a outside)
+
+  device-in : (p : Permission) (ranges : List Range) → allows p c ≡ true → (rs : List ℕ) → list_all is_register rs ≡ true
+      → list_any (has_outside ranges c) rs ≡ true → OpensDevice p ranges c
+  device-in p ranges may [] all is = absurd (false≢true is)
+  device-in p ranges may (r ∷ rs) all is =
+      let each = and_parts (is_register r) (list_all is_register rs) all in
+      elim (or_cases (has_outside ranges c r) (list_any (has_outside ranges c) rs) is) [
+        | inl here ↦
+            let out = left-out ranges r here in
+            record { register = r; answers = each.0; outside = out.2; lets = (is-let p).0 may; base = out.0; top = out.1 }
+        | inr there ↦ device-in p ranges may rs each.1 there
+      ]
+
+  pub is-device : (p : Permission) (ranges : List Range) → (opens_device p ranges c ≡ true) ↔ OpensDevice p ranges c
+  is-device p ranges = (
+    λ is.
+        let both = and_parts (allows p c) (list_any (has_outside ranges c) registers) is in
+        device-in p ranges both.0 registers refl both.1,
+    λ opens.
+        and_from (allows p c) (list_any (has_outside ranges c) registers) ((is-let p).1 opens.lets)
+        (register-among (has_outside ranges c) opens.register opens.answers
+        (out-left ranges opens.register opens.base opens.top opens.outside)),
+  )
+
+  is-used : (p : Permission) (ranges : List Range)
+      → ((opens_outside p ranges c || opens_device p ranges c) ≡ true) ↔ (OpensOutside p ranges c ⊎ OpensDevice p ranges c)
+  is-used p ranges = (
+    λ is. elim (or_cases (opens_outside p ranges c) (opens_device p ranges c) is) [
+      | inl memory ↦ inl ((is-outside p ranges).0 memory)
+      | inr device ↦ inr ((is-device p ranges).0 device)
+    ],
+    λ uses. elim uses [
+      | inl memory ↦ or_left (opens_outside p ranges c) (opens_device p ranges c) ((is-outside p ranges).1 memory)
+      | inr device ↦ or_right (opens_outside p ranges c) (opens_device p ranges c) ((is-device p ranges).1 device)
+    ],
   )
 
   abbrev pub first : ℕ
@@ -279,6 +387,35 @@ module _ (c : CapValue) where
         (lt-ltb (value_base c) (min (value_top c) FIRST_RESERVED) (omega arith)),
   )
 
+  pub is-entering : (enter execute : List Range) → (enters_outside enter execute c ≡ true) ↔ EntersOutside enter execute c
+  is-entering enter execute = (
+    λ is.
+        let both = and_parts (is_enterable c) (not (is_in_one enter (entry c)) && not (is_in_one execute (entry c))) is in
+        let out = and_parts (not (is_in_one enter (entry c))) (not (is_in_one execute (entry c))) both.1 in
+        let sealed = and_parts (is_sealed c) _ both.0 in
+        let executes = and_parts (permits c permission.Execute) _ sealed.1 in
+        let in_ram = and_parts (nat_le ram_base (entry c)) _ executes.1 in
+        let bounds = and_parts (nat_le (value_base c) (entry c)) (nat_le (entry c + 4) (value_top c)) in_ram.1 in
+        record {
+          sealed = sealed.0;
+          executes = executes.0;
+          in_ram = leb-true ram_base (entry c) in_ram.0;
+          base = leb-true (value_base c) (entry c) bounds.0;
+          top = leb-true (entry c + 4) (value_top c) bounds.1;
+          not_entered = none-of enter (entry c) out.0;
+          not_fetched = none-of execute (entry c) out.1;
+        },
+    λ enters.
+        and_from (is_enterable c) (not (is_in_one enter (entry c)) && not (is_in_one execute (entry c)))
+        (and_from (is_sealed c) _ enters.sealed
+        (and_from (permits c permission.Execute) _ enters.executes
+        (and_from (nat_le ram_base (entry c)) _ (le-leb ram_base (entry c) enters.in_ram)
+        (and_from (nat_le (value_base c) (entry c)) (nat_le (entry c + 4) (value_top c)) (le-leb (value_base c) (entry c) enters.base)
+        (le-leb (entry c + 4) (value_top c) enters.top)))))
+        (and_from (not (is_in_one enter (entry c))) (not (is_in_one execute (entry c))) (of-none enter (entry c) enters.not_entered)
+        (of-none execute (entry c) enters.not_fetched)),
+  )
+
   pub any-there : (types : List ℕ) (otype : ℕ) → list_any (λ t. t == otype) types ≡ true → Contains types otype
   any-there [] otype is = absurd (false≢true is)
   any-there (t ∷ ts) otype is = elim (or_cases (t == otype) (list_any (λ t. t == otype) ts) is) [
@@ -329,10 +466,11 @@ module _ (c : CapValue) where
   module _ (rule : Terms) where
     pub is-break : (ban : Ban) → (breaks rule ban c ≡ true) ↔ Breaks rule ban c
     unfolding breaks
-    is-break Store = is-outside permission.Store rule.store
-    is-break Load = is-outside permission.Load rule.load
+    is-break Store = is-used permission.Store rule.store
+    is-break Load = is-used permission.Load rule.load
     is-break Execute = is-outside permission.Execute rule.execute
     is-break Keep = (keeps-by rule.keep, by-keeps rule.keep)
+    is-break Enter = is-entering rule.enter rule.execute
     is-break Transmit = is-banned rule.transmit (opens_store transmit c) (opens_store-means c transmit)
     is-break Halt = is-banned rule.halt (opens_store halt c) (opens_store-means c halt)
     is-break Timer = is-banned rule.timer (opens_store timer_compare c) (opens_store-means c timer_compare)

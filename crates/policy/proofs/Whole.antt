@@ -1,8 +1,9 @@
 -- What a rule guards over each event of a run, it guards over the run.
 use Rattle.std.proofs.Common.{◌≡◌, ℕ, ◌+◌, ◌-◌, ◌%◌, ◌<◌, ◌≤◌, zero, suc, true, false, List, [], ◌∷◌, ◌++◌, length, get_or, take, refl}
-use Rattle.std.proofs.Common.{sym, ap, ◌∙◌, subst, inl, inr, arith}
+use Rattle.std.proofs.Common.{sym, ap, ◌∙◌, subst, inl, inr, ◌⊎◌, arith}
 use Rattle.std.proofs.lemmas.Bool.{true≢false}
 use Rattle.std.proofs.lemmas.List.{get_or_default, take_more}
+use Rattle.std.specs.List.{HoldsAt}
 use Rattle.std.specs.Prelude.{◌≢◌, Contains, Some, option_to_list}
 use Rattle.base.specs.ObjectType.{is_reserved}
 use Rattle.base.specs.Ram.{ram_base}
@@ -10,18 +11,18 @@ use Rattle.cap_bounds.specs.CapValue.{CapValue, is_sealed, value_otype}
 use Rattle.cap_rights.specs.Permission.{permits}
 use Rattle.cap_rights.specs.declared.permission.Permission.TheVariants.{Global}
 use Rattle.tagged_memory.specs.Memory.{has_tag}
-use Rattle.devices.specs.Devices.{mtimecmp}
+use Rattle.devices.specs.Devices.{control_register, mtimecmp}
 use Rattle.steps.specs.declared.event.Event.{Event}
 use Rattle.steps.specs.declared.event.Event.TheVariants.{Step}
 use Rattle.steps.specs.Event.{after, outcome, sent}
-use Rattle.steps.specs.Outcome.{Unseal}
+use Rattle.steps.specs.Outcome.{Trap, Unseal}
 use Rattle.steps.specs.State.{State, pc_of}
 use Rattle.authority.specs.Reachable.{IsHeldAt, IsReachable}
 use Rattle.machine.specs.Run.{run_after, run_sent}
 use Rattle.reach.specs.Ranges.{IsInOne}
 use Rattle.policy.specs.Terms.{Terms}
 use Rattle.policy.specs.Lending.{in_force, in_force_after}
-use Rattle.policy.specs.Watch.{AllowsType, KeepsTo, DiffersOutside, fetched_at}
+use Rattle.policy.specs.Watch.{AllowsType, KeepsTo, DiffersOutside, IsTrapEntry, fetched_at}
 use Rattle.policy.specs.Run.{KeepToEach, AppliesToEach, NoneTraps, NoneUnseals}
 use Rattle.policy.proofs.Fetching.{about-fetched}
 use Rattle.policy.proofs.Forced.{in_force-append, stays-in-force}
@@ -167,6 +168,11 @@ module _ (rules : List Terms) (rule : Terms) (events : List Event) (there : Cont
       at-step : KeepsTo rule (at k) (state s k)
       at-step = last k up-to
 
+    console : (done : ℕ) → Guards done → (IsInOne rule.store control_register → ⊥) → (state s done).devices.control ≡ s.devices.control
+    console zero g outside = refl
+    console (suc n) g outside =
+        ap (λ x. x.devices.control) (state-more n (inside n g) s) ∙ (last n g).leaves.console outside ∙ console n (fewer n g) outside
+
     module _ (t : State) (differs : DiffersOutside rule s t) where
       same_state : (done : ℕ) → Guards done → DiffersOutside rule (state s done) (state t done)
       same_state zero g = differs
@@ -213,8 +219,26 @@ module _ (rules : List Terms) (rule : Terms) (events : List Event) (there : Cont
       pub compare-stays : rule.timer ≡ false → mtimecmp (state s done).devices ≡ mtimecmp s.devices
       compare-stays = timer done guards
 
+      pub console-stays : (IsInOne rule.store control_register → ⊥) → (state s done).devices.control ≡ s.devices.control
+      console-stays = console done guards
+
       pub fetched-inside : (k pc a : ℕ) → k < done → fetched_at (state s k) ≡ Some pc → pc ≤ a → a < pc + 4 → IsInOne rule.execute a
       fetched-inside k pc a below = (at-step done guards k below).runs.fetched pc a
+
+      next-state : (k : ℕ) → k < done → state s (k + 1) ≡ after (at k) (state s k)
+      next-state k below =
+          let next : k + 1 ≡ suc k = omega arith in
+          ap (state s) next ∙ state-more k (omega (arith, some)) s
+
+      pub leads-inside : (k pc : ℕ) → k < done → HoldsAt (λ e. outcome e (state s k) ≢ Trap) events k
+          → fetched_at (state s (k + 1)) ≡ Some pc → IsInOne rule.execute pc ⊎ IsInOne rule.enter pc
+      leads-inside k pc below other is =
+          (at-step done guards k below).runs.leads (other Step) pc (subst (λ t. fetched_at t ≡ Some pc) (next-state k below) is)
+
+      pub traps-enter : (k : ℕ) → k < done → HoldsAt (λ e. outcome e (state s k) ≡ Trap) events k
+          → IsTrapEntry (state s k) (state s (k + 1))
+      traps-enter k below trap =
+          subst (IsTrapEntry (state s k)) (sym (next-state k below)) ((at-step done guards k below).runs.traps (trap Step))
 
       pub types-allowed : (k : ℕ) (v : CapValue) → k < done → IsReachable (state s k) v → is_sealed v ≡ true
           → is_reserved (value_otype v) ≡ false → AllowsType rule (value_otype v)

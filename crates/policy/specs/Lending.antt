@@ -16,7 +16,7 @@ use Rattle.reach.specs.Ranges.{ranges_of}
 use Rattle.policy.specs.Terms.{Terms}
 use Rattle.cap_rights.specs.Opens.{opens_store, opens_system}
 use Rattle.policy.specs.Tests.{is_about}
-use Rattle.policy.specs.Opened.{opens_types, types_with}
+use Rattle.policy.specs.Opened.{entered_by, opens_types, types_with}
 use Rattle.policy.specs.Watch.{values_in}
 
 -- the terms with all that some values open
@@ -27,6 +27,7 @@ lent said vs =
       load = said.load ++ ranges_of right.Load vs;
       execute = said.execute ++ ranges_of right.Execute vs;
       keep = said.keep ++ ranges_of right.Keep vs;
+      enter = said.enter ++ entered_by vs;
       transmit = said.transmit || list_any (opens_store transmit) vs;
       halt = said.halt || list_any (opens_store halt) vs;
       timer = said.timer || list_any (opens_store timer_compare) vs;

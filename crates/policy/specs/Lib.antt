@@ -2,8 +2,8 @@
 pub mod Terms
 pub mod Rule
 pub mod Watch
-pub mod Tests
 pub mod Opened
+pub mod Tests
 pub mod Lending
 pub mod Run
 -- Inner words

@@ -4,14 +4,15 @@ use Rattle.reach.specs.declared.range.Range.{Range}
 use Rattle.policy.specs.declared.rule.Rule.{Rule}
 
 -- the code that it is about; the bytes of RAM that this code may store to, load and fetch, and in whose granules it may keep what is lent;
--- what else it may do; the object types of the sealed capabilities that it may come to hold, or all of them; and whether what its caller
--- could reach is allowed too
+-- the addresses that it may enter through a seal; what else it may do; the object types of the sealed capabilities that it may come to
+-- hold, or all of them; and whether what its caller could reach is allowed too
 pub record Terms : Type 0 where
   pub code : List Range
   pub store : List Range
   pub load : List Range
   pub execute : List Range
   pub keep : List Range
+  pub enter : List Range
   pub transmit : Bool
   pub halt : Bool
   pub timer : Bool
@@ -28,6 +29,7 @@ terms rule =
       load = rule.load.items;
       execute = rule.execute.items;
       keep = rule.keep.items;
+      enter = rule.enter.items;
       transmit = rule.transmit;
       halt = rule.halt;
       timer = rule.timer;

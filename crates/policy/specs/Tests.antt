@@ -9,13 +9,16 @@ use Rattle.base.specs.Ram.{ram_base}
 use Rattle.cap_bounds.specs.CapValue.{CapValue, is_sealed, value_base, value_top, value_otype}
 use Rattle.cap_rights.specs.declared.permission.Permission.{Permission}
 use Rattle.cap_rights.specs.declared.permission.Permission.TheVariants as permission
+use Rattle.cap_rights.specs.Derivations.{address_in_bounds}
 use Rattle.cap_rights.specs.Permission.{permits}
 use Rattle.cap_rights.specs.Opens.{allows, opens_store, opens_system}
-use Rattle.devices.specs.Devices.{halt, timer_compare, transmit}
+use Rattle.devices.specs.Devices.{halt, timer_compare, timer, transmit, receive, status, control_register}
 use Rattle.reach.specs.declared.range.Range.{Range}
 use Rattle.policy.specs.declared.rule.Ban.{Ban}
-use Rattle.policy.specs.declared.rule.Ban.TheVariants.{Store, Load, Execute, Keep, Transmit, Halt, Timer, System, Seal, Types}
+use Rattle.policy.specs.declared.rule.Ban.TheVariants.{Store, Load, Execute, Keep, Enter, Transmit, Halt, Timer, System, Seal, Types}
 use Rattle.policy.specs.Terms.{Terms}
+use Rattle.policy.specs.Rule.{entry}
+use Rattle.policy.specs.Opened.{is_enterable}
 
 -- whether an address lies in one of the ranges
 abbrev pub is_in_one : List Range → ℕ → Bool
@@ -30,6 +33,18 @@ leaves_out (range ∷ ranges) from to = leaves_out ranges from (min to range.fro
 abbrev pub opens_outside : Permission → List Range → CapValue → Bool
 opens_outside permission ranges c = allows permission c && leaves_out ranges (max (value_base c) ram_base) (value_top c)
 
+-- where the device registers begin
+abbrev pub registers : List ℕ
+registers = halt ∷ timer ∷ transmit ∷ receive ∷ status ∷ control_register ∷ timer_compare ∷ []
+
+-- a number lies in its bounds, and in none of the ranges
+abbrev pub has_outside : List Range → CapValue → ℕ → Bool
+has_outside ranges c a = address_in_bounds c a && not (is_in_one ranges a)
+
+-- it lets code do so where a device register answers that begins in none of the ranges
+abbrev pub opens_device : Permission → List Range → CapValue → Bool
+opens_device permission ranges c = allows permission c && list_any (has_outside ranges c) registers
+
 -- it lets code keep what is lent in a granule of RAM that doesn't lie wholly in the ranges: of the granules in its bounds a byte is left
 -- out
 abbrev pub keeps_outside : List Range → CapValue → Bool
@@ -38,6 +53,11 @@ keeps_outside ranges c =
     && (permits c permission.StoreCapability
     && (permits c permission.StoreLocalCapability
     && leaves_out ranges ((max (value_base c) ram_base + 15) / 16 * 16) (value_top c / 16 * 16)))
+
+-- where a jump through its seal leads, an instruction in RAM and in its bounds, is left out of both the ranges
+abbrev pub enters_outside : List Range → List Range → CapValue → Bool
+enters_outside enter execute c =
+    is_enterable c && (not (is_in_one enter (entry c)) && not (is_in_one execute (entry c)))
 
 -- values may be sealed or unsealed through it, with an object type that is not reserved
 abbrev pub opens_sealing : CapValue → Bool
@@ -50,10 +70,11 @@ is_sealed_beyond types c =
     is_sealed c && (not (is_reserved (value_otype c)) && not (list_any (λ t. t == value_otype c) types))
 
 unfoldable pub breaks : Terms → Ban → CapValue → Bool
-breaks rule Store c = opens_outside permission.Store rule.store c
-breaks rule Load c = opens_outside permission.Load rule.load c
+breaks rule Store c = opens_outside permission.Store rule.store c || opens_device permission.Store rule.store c
+breaks rule Load c = opens_outside permission.Load rule.load c || opens_device permission.Load rule.load c
 breaks rule Execute c = opens_outside permission.Execute rule.execute c
 breaks rule Keep c = keeps_outside rule.keep c
+breaks rule Enter c = enters_outside rule.enter rule.execute c
 breaks rule Transmit c = not rule.transmit && opens_store transmit c
 breaks rule Halt c = not rule.halt && opens_store halt c
 breaks rule Timer c = not rule.timer && opens_store timer_compare c

@@ -10,7 +10,8 @@ use Rattle.cap_bounds.specs.CapValue.{CapValue, is_sealed, value_otype}
 use Rattle.cap_rights.specs.Permission.{permits}
 use Rattle.cap_rights.specs.declared.permission.Permission.TheVariants.{Global}
 use Rattle.tagged_memory.specs.Memory.{has_tag}
-use Rattle.devices.specs.Devices.{mtimecmp}
+use Rattle.devices.specs.Devices.{control_register, mtimecmp}
+use Rattle.special_regs.specs.Traps.{trap_target}
 use Rattle.steps.specs.declared.event.Event.{Event}
 use Rattle.steps.specs.Event.{after, outcome, sent}
 use Rattle.steps.specs.Outcome.{Plain, Trap, Unseal}
@@ -57,8 +58,9 @@ HoldEach rules s = (rule : Terms) → Contains rules rule → Applies rule (fetc
 
 -- What an event leaves as it is by a rule: the bytes of RAM outside the ranges for stores, and the tags of granules that lie outside
 -- them; what is lent without Global is kept in no granule that doesn't lie wholly in the ranges for it: such a granule holds later what it
--- held, or no tag, or a Global value that was given with Global; and, as the rule says no to each, nothing is sent, the machine is not
--- halted, the timer's interrupt is not set, and the system registers stay unless the event traps.
+-- held, or no tag, or a Global value that was given with Global; as the rule says no to each, nothing is sent, the machine is not halted,
+-- the timer's interrupt is not set, and the system registers stay unless the event traps; and the console's control register stays, unless
+-- it is given for stores.
 pub record LeavesBy (rule : Terms) (e : Event) (s : State) : Type 0 where
   pub bytes :
       (a : ℕ) → ram_base ≤ a → (IsInOne rule.store a → ⊥)
@@ -73,6 +75,7 @@ pub record LeavesBy (rule : Terms) (e : Event) (s : State) : Type 0 where
   pub silent : rule.transmit ≡ false → sent e s ≡ None
   pub halt : rule.halt ≡ false → (after e s).devices.halted ≡ s.devices.halted
   pub timer : rule.timer ≡ false → mtimecmp (after e s).devices ≡ mtimecmp s.devices
+  pub console : (IsInOne rule.store control_register → ⊥) → (after e s).devices.control ≡ s.devices.control
   pub system :
       outcome e s ≢ Trap → rule.system ≡ false → SameScrs s.scrs (after e s).scrs × SameCsrs s.csrs (after e s).csrs
 
@@ -96,12 +99,21 @@ pub record LearnsBy (rule : Terms) (e : Event) (s : State) : Type 0 where
   pub differ : (t : State) → DiffersOutside rule s t → DiffersOutside rule (after e s) (after e t)
   pub agree : (t : State) → DiffersOutside rule s t → outcome e s ≡ Plain → Agree (after e s) (after e t)
 
+-- the trap's entry: where MTCC leads by the fault
+pub record IsTrapEntry (s later : State) : Type 0 where
+  pub fault : Fault
+  pub pcc : later.scrs.pcc ≡ trap_target fault s.scrs.mtcc
+
 -- Where code runs by a rule: what can be fetched before the event lies in the ranges for fetches, and so does what can be fetched after it
--- where it is plain.
+-- where it is plain. Whatever the event is, what can be fetched after it begins in the ranges for fetches or in those that may be entered,
+-- unless it traps, and then PCC is the trap's entry.
 pub record RunsBy (rule : Terms) (e : Event) (s : State) : Type 0 where
   pub fetched : (pc a : ℕ) → fetched_at s ≡ Some pc → pc ≤ a → a < pc + 4 → IsInOne rule.execute a
   pub next :
       outcome e s ≡ Plain → (pc a : ℕ) → fetched_at (after e s) ≡ Some pc → pc ≤ a → a < pc + 4 → IsInOne rule.execute a
+  pub leads :
+      outcome e s ≢ Trap → (pc : ℕ) → fetched_at (after e s) ≡ Some pc → IsInOne rule.execute pc ⊎ IsInOne rule.enter pc
+  pub traps : outcome e s ≡ Trap → IsTrapEntry s (after e s)
 
 -- the rule allows the object type
 abbrev pub AllowsType : Terms → ℕ → Type 0

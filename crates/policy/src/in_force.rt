@@ -9,12 +9,13 @@ ghost use Rattle.reach.specs.Ranges.{ranges_of};
 ghost use Rattle.reach.specs.declared.right.Right.TheVariants as right;
 ghost use Rattle.policy.specs.Terms.{terms, terms_of};
 ghost use Rattle.policy.specs.Tests as spec;
-ghost use Rattle.policy.specs.Opened.{types_with};
+ghost use Rattle.policy.specs.Opened.{entered_by, types_with};
 ghost use Rattle.policy.specs.Lending.{door_of, each_after, in_force_after, is_call, lent, next_door, terms_after};
 ghost use Rattle.steps.specs.declared.event.Event.TheVariants.{Step};
 ghost use Rattle.policy.specs.Known.{IsPaired, forced_by, held_by, said_by};
 
 use crate::about;
+use crate::entries::entered_by;
 use crate::opened::{may_halt, may_seal, may_send, may_set_timer, may_use_system};
 use crate::rule::Rule;
 use crate::types::types_of;
@@ -99,6 +100,20 @@ fn with_open<C: CapRep>(
     Ok(all)
 }
 
+/// Ranges with where jumps through the seals of a reach lead.
+fn with_entered<C: CapRep>(
+    alloc: Global,
+    ranges: &[Range],
+    reach: &Reach<C>,
+) -> Result<Vec<Range>, AllocError>
+    ensures { IfOk result (λ all. all.items ≡ ranges.now ++ entered_by (values C.value reach.now)) }
+{
+    let entered = entered_by(alloc, reach.members())?;
+    let mut all = copy_of(alloc, ranges)?;
+    all.extend_from_slice(&entered)?;
+    Ok(all)
+}
+
 /// Ranges once more.
 fn copy_of(alloc: Global, ranges: &[Range]) -> Result<Vec<Range>, AllocError>
     ensures { IfOk result (λ copy. copy.items ≡ ranges.now) }
@@ -145,6 +160,7 @@ fn lent<C: CapRep>(alloc: Global, rule: &Rule, reach: &Reach<C>) -> Result<Rule,
         load: with_open(alloc, &rule.load, reach, Right::Load)?,
         execute: with_open(alloc, &rule.execute, reach, Right::Execute)?,
         keep: with_open(alloc, &rule.keep, reach, Right::Keep)?,
+        enter: with_entered(alloc, &rule.enter, reach)?,
         transmit: either(rule.transmit, may_send(reach)),
         halt: either(rule.halt, may_halt(reach)),
         timer: either(rule.timer, may_set_timer(reach)),
@@ -165,6 +181,7 @@ fn copy(alloc: Global, rule: &Rule) -> Result<Rule, AllocError>
         load: copy_of(alloc, &rule.load)?,
         execute: copy_of(alloc, &rule.execute)?,
         keep: copy_of(alloc, &rule.keep)?,
+        enter: copy_of(alloc, &rule.enter)?,
         transmit: rule.transmit,
         halt: rule.halt,
         timer: rule.timer,

@@ -1,15 +1,18 @@
 //! What a policy means for whole runs: the contract is a law over the definitions alone, and the body is empty.
 ghost use Rattle.std.specs.Prelude.{◌≡◌, ◌↔◌, true, ℕ, ◌+◌, ◌-◌, ◌%◌, ◌<◌, ◌≤◌, false, List, [], length, take, Contains, slice_index};
-ghost use Rattle.std.specs.Prelude.{Option, Some};
+ghost use Rattle.std.specs.Prelude.{◌≢◌, ◌⊎◌, Option, Some};
+ghost use Rattle.std.specs.List.{HoldsAt};
 ghost use Rattle.base.specs.Ram.{ram_base};
 ghost use Rattle.base.specs.ObjectType.{is_reserved};
 ghost use Rattle.cap_bounds.specs.CapValue.{CapValue, is_sealed, value_otype};
 ghost use Rattle.cap_rights.specs.Permission.{permits};
 ghost use Rattle.cap_rights.specs.declared.permission.Permission.TheVariants.{Global};
 ghost use Rattle.tagged_memory.specs.Memory.{has_tag};
-ghost use Rattle.devices.specs.Devices.{mtimecmp};
+ghost use Rattle.devices.specs.Devices.{control_register, mtimecmp};
 ghost use Rattle.steps.specs.declared.event.Event.{Event};
+ghost use Rattle.steps.specs.Event.{outcome};
 ghost use Rattle.steps.specs.IsState.{IsState};
+ghost use Rattle.steps.specs.Outcome.{Trap};
 ghost use Rattle.steps.specs.State.{State};
 ghost use Rattle.authority.specs.Authority.{SameScrs, SameCsrs};
 ghost use Rattle.authority.specs.Reachable.{IsHeldAt, IsReachable};
@@ -19,7 +22,7 @@ ghost use Rattle.policy.specs.Terms.{Terms};
 ghost use Rattle.policy.specs.declared.rule.Ban.{Ban};
 ghost use Rattle.policy.specs.Rule.{Breaks};
 ghost use Rattle.policy.specs.Tests.{applies, breaks, is_about};
-ghost use Rattle.policy.specs.Watch.{AllowsType, Applies, DiffersOutside, Holds, IsAbout, KeepsTo, fetched_at};
+ghost use Rattle.policy.specs.Watch.{AllowsType, Applies, DiffersOutside, Holds, IsAbout, IsTrapEntry, KeepsTo, fetched_at};
 ghost use Rattle.policy.specs.Run.{KeepToEach, AppliesToEach, NoneTraps, NoneUnseals};
 
 /// A rule that nothing reachable breaks is kept at every event, whatever the code is: traps, unsealings and sealed jumps among them.
@@ -30,9 +33,10 @@ pub fn rules_that_hold_are_kept()
 /// Over the events of a watched run to each of which a rule applies, traps, unsealings and sealed jumps among them: the bytes and tags of
 /// RAM outside its ranges for stores stay; a granule that doesn't lie wholly in its ranges for keeping comes to hold nothing without Global
 /// that it didn't hold; nothing is sent, the machine is not halted and the timer's interrupt is not set where it says no, and
-/// without a trap the system registers stay; what is fetched lies in its ranges for fetches; what is reachable and sealed, but for
-/// sentries, has an object type that it allows, and nothing is unsealed where it says no; and from a state that differs only outside its
-/// ranges for loads and fetches the same bytes are sent, and the state at the end differs only there.
+/// without a trap the system registers stay; the console's control register stays, unless it is given for stores; what is fetched lies in
+/// its ranges for fetches, and what can be fetched next in those or in what it lets be entered, but for a trap's entry; what is reachable
+/// and sealed, but for sentries, has an object type that it allows, and nothing is unsealed where it says no; and from a state that differs
+/// only outside its ranges for loads and fetches the same bytes are sent, and the state at the end differs only there.
 pub fn runs_keep_to_a_rule()
     ensures bytes { (rules : List Terms) (rule : Terms) (events : List Event) (done : ℕ) (s : State) → done ≤ length events
         → KeepToEach rules events done s → Contains rules rule → AppliesToEach rule events done s → (a : ℕ) → ram_base ≤ a
@@ -55,6 +59,9 @@ pub fn runs_keep_to_a_rule()
     ensures timer { (rules : List Terms) (rule : Terms) (events : List Event) (done : ℕ) (s : State) → done ≤ length events
         → KeepToEach rules events done s → Contains rules rule → AppliesToEach rule events done s → rule.timer ≡ false
         → mtimecmp (run_after (take done events) s).devices ≡ mtimecmp s.devices }
+    ensures console { (rules : List Terms) (rule : Terms) (events : List Event) (done : ℕ) (s : State) → done ≤ length events
+        → KeepToEach rules events done s → Contains rules rule → AppliesToEach rule events done s
+        → (IsInOne rule.store control_register → ⊥) → (run_after (take done events) s).devices.control ≡ s.devices.control }
     ensures system { (rules : List Terms) (rule : Terms) (events : List Event) (done : ℕ) (s : State) → done ≤ length events
         → KeepToEach rules events done s → Contains rules rule → AppliesToEach rule events done s → rule.system ≡ false
         → NoneTraps events done s
@@ -62,6 +69,14 @@ pub fn runs_keep_to_a_rule()
     ensures fetched { (rules : List Terms) (rule : Terms) (events : List Event) (done : ℕ) (s : State) → done ≤ length events
         → KeepToEach rules events done s → Contains rules rule → AppliesToEach rule events done s → (k pc a : ℕ) → k < done
         → fetched_at (run_after (take k events) s) ≡ Some pc → pc ≤ a → a < pc + 4 → IsInOne rule.execute a }
+    ensures leads { (rules : List Terms) (rule : Terms) (events : List Event) (done : ℕ) (s : State) → done ≤ length events
+        → KeepToEach rules events done s → Contains rules rule → AppliesToEach rule events done s → (k pc : ℕ) → k < done
+        → HoldsAt (λ e. outcome e (run_after (take k events) s) ≢ Trap) events k
+        → fetched_at (run_after (take (k + 1) events) s) ≡ Some pc → IsInOne rule.execute pc ⊎ IsInOne rule.enter pc }
+    ensures traps { (rules : List Terms) (rule : Terms) (events : List Event) (done : ℕ) (s : State) → done ≤ length events
+        → KeepToEach rules events done s → Contains rules rule → AppliesToEach rule events done s → (k : ℕ) → k < done
+        → HoldsAt (λ e. outcome e (run_after (take k events) s) ≡ Trap) events k
+        → IsTrapEntry (run_after (take k events) s) (run_after (take (k + 1) events) s) }
     ensures types { (rules : List Terms) (rule : Terms) (events : List Event) (done : ℕ) (s : State) → done ≤ length events
         → KeepToEach rules events done s → Contains rules rule → AppliesToEach rule events done s → (k : ℕ) (v : CapValue) → k < done
         → IsReachable (run_after (take k events) s) v → is_sealed v ≡ true → is_reserved (value_otype v) ≡ false

@@ -5,6 +5,7 @@ mod about;
 mod breach;
 mod certificate;
 mod cover;
+mod entries;
 mod fault;
 mod guard;
 mod in_force;
@@ -19,6 +20,7 @@ mod watcher;
 
 pub use about::{applies, fetched_at};
 pub use breach::{breaks, first_breach};
+pub use entries::entered_by;
 pub use fault::PolicyFault;
 pub use in_force::InForce;
 pub use opened::{may_halt, may_seal, may_send, may_set_timer, may_use_system};

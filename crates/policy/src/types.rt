@@ -24,8 +24,8 @@ fn count_below(types: &[u64], otype: u64) -> usize
     count
 }
 
-/// Puts a type among ascending types, if it is not there.
-fn put_type(types: &mut Vec<u64>, otype: u64) -> Result<(), AllocError>
+/// Puts a number among ascending ones, if it is not there.
+pub(crate) fn put_type(types: &mut Vec<u64>, otype: u64) -> Result<(), AllocError>
     ensures { OnOk result (types.new.items ≡ put_type otype types.old.items) }
 {
     let place = count_below(types, otype);

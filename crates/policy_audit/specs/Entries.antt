@@ -13,7 +13,7 @@ use Rattle.reach.specs.declared.right.Right.TheVariants.{Store, Load, Execute, K
 use Rattle.reach.specs.Ranges.{bounds_of, ranges_of}
 use Rattle.policy.specs.Watch.{values_in}
 use Rattle.cap_rights.specs.Opens.{opens_store, opens_system}
-use Rattle.policy.specs.Opened.{opens_types, types_with}
+use Rattle.policy.specs.Opened.{entered_by, opens_types, types_with}
 use Rattle.policy_audit.specs.Told.{told}
 
 -- ---- ranges
@@ -44,6 +44,10 @@ within_text (r ∷ rs) = codes " within" ++ flat_map next_range (r ∷ rs)
 unfoldable pub bytes_part : List ℕ → Right → List CapValue → List ℕ
 bytes_part name right vs = name ++ within_text (ranges_of right vs)
 
+-- where jumps through their seals lead
+unfoldable pub enter_part : List CapValue → List ℕ
+enter_part vs = codes ", enter" ++ within_text (entered_by vs)
+
 abbrev pub yes_or_no : Bool → List ℕ
 yes_or_no b = if b then codes "yes" else codes "no"
 
@@ -72,7 +76,7 @@ code_part code = codes "when pc in " ++ range_text code ++ codes ": "
 unfoldable pub ranges_part : List CapValue → List ℕ
 ranges_part vs =
     bytes_part (codes "store") Store vs ++ bytes_part (codes ", load") Load vs ++ bytes_part (codes ", execute") Execute vs
-    ++ bytes_part (codes ", keep") Keep vs
+    ++ bytes_part (codes ", keep") Keep vs ++ enter_part vs
 
 unfoldable pub entry_line : Range → List CapValue → List ℕ
 entry_line code vs = code_part code ++ ranges_part vs ++ rights_part vs ++ types_part vs ++ codes "\n"

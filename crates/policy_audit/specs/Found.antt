@@ -4,7 +4,7 @@ use Rattle.std.specs.List.{flat_map, list_all, list_any}
 use Rattle.cap_bounds.specs.CapValue.{CapValue}
 use Rattle.steps.specs.State.{State}
 use Rattle.policy.specs.declared.rule.Ban.{Ban}
-use Rattle.policy.specs.declared.rule.Ban.TheVariants.{Store, Load, Execute, Keep, Transmit, Halt, Timer, System, Seal, Types}
+use Rattle.policy.specs.declared.rule.Ban.TheVariants.{Store, Load, Execute, Keep, Enter, Transmit, Halt, Timer, System, Seal, Types}
 use Rattle.policy.specs.Terms.{Terms}
 use Rattle.policy.specs.Rule.{place_of}
 use Rattle.policy.specs.Tests.{applies, breaks}
@@ -15,7 +15,7 @@ use Rattle.policy_audit.specs.declared.finding.Finding.{Finding}
 
 -- the parts of a rule, in their order
 abbrev pub parts : List Ban
-parts = Store ∷ Load ∷ Execute ∷ Keep ∷ Transmit ∷ Halt ∷ Timer ∷ System ∷ Seal ∷ Types ∷ []
+parts = Store ∷ Load ∷ Execute ∷ Keep ∷ Enter ∷ Transmit ∷ Halt ∷ Timer ∷ System ∷ Seal ∷ Types ∷ []
 
 -- whether a part of the rule at a place was found
 abbrev pub is_found : List Finding → ℕ → Ban → Bool

@@ -1,12 +1,12 @@
 //! What the code in a range can do, as a line of a policy.
 ghost use Rattle.std.specs.Prelude.{◌≡◌, ◌++◌, OnOk, string_bytes};
 ghost use Rattle.reached.specs.Links.{values};
-ghost use Rattle.policy_audit.specs.Entries.{bytes_part, code_part, entry_line, ranges_part, rights_part, yes_or_no};
+ghost use Rattle.policy_audit.specs.Entries.{bytes_part, code_part, enter_part, entry_line, ranges_part, rights_part, yes_or_no};
 
 use crate::ranges::{append_within, range_text};
 use crate::types::append_types;
 use cap_bounds::CapRep;
-use policy::{may_halt, may_seal, may_send, may_set_timer, may_use_system};
+use policy::{entered_by, may_halt, may_seal, may_send, may_set_timer, may_use_system};
 use reach::{Range, Reach, Right};
 use std::alloc::{AllocError, Global};
 use texts::Piece::Text;
@@ -41,7 +41,21 @@ fn append_bytes<C: CapRep>(
     append_within(text, &ranges)
 }
 
-/// Appends the addresses that a reach opens.
+/// Appends where jumps through the seals of a reach lead.
+#[tactic(auto, unfolding(crate::specs::Entries::enter_part))]
+fn append_entered<C: CapRep>(
+    text: &mut String,
+    alloc: Global,
+    reach: &Reach<C>,
+) -> Result<(), AllocError>
+    ensures { OnOk result (string_bytes text.new ≡ string_bytes text.old ++ enter_part (values C.value reach.now)) }
+{
+    let ranges = entered_by(alloc, reach.members())?;
+    append(text, &[Text(", enter")])?;
+    append_within(text, &ranges)
+}
+
+/// Appends the addresses that a reach opens, and those that it lets code enter.
 #[tactic(auto, unfolding(crate::specs::Entries::ranges_part))]
 fn append_ranges<C: CapRep>(
     text: &mut String,
@@ -53,7 +67,8 @@ fn append_ranges<C: CapRep>(
     append_bytes(text, alloc, "store", reach, Right::Store)?;
     append_bytes(text, alloc, ", load", reach, Right::Load)?;
     append_bytes(text, alloc, ", execute", reach, Right::Execute)?;
-    append_bytes(text, alloc, ", keep", reach, Right::Keep)
+    append_bytes(text, alloc, ", keep", reach, Right::Keep)?;
+    append_entered(text, alloc, reach)
 }
 
 fn yes_or_no(yes: bool) -> &'static str

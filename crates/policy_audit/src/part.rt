@@ -12,11 +12,12 @@ use policy::{Ban, Rule};
 use reached::Member;
 
 /// The parts of a rule, in their order.
-pub(crate) const PARTS: [Ban; 10] = [
+pub(crate) const PARTS: [Ban; 11] = [
     Ban::Store,
     Ban::Load,
     Ban::Execute,
     Ban::Keep,
+    Ban::Enter,
     Ban::Transmit,
     Ban::Halt,
     Ban::Timer,
@@ -34,12 +35,13 @@ fn place_of(ban: Ban) -> u8
         Ban::Load => 1,
         Ban::Execute => 2,
         Ban::Keep => 3,
-        Ban::Transmit => 4,
-        Ban::Halt => 5,
-        Ban::Timer => 6,
-        Ban::System => 7,
-        Ban::Seal => 8,
-        Ban::Types => 9,
+        Ban::Enter => 4,
+        Ban::Transmit => 5,
+        Ban::Halt => 6,
+        Ban::Timer => 7,
+        Ban::System => 8,
+        Ban::Seal => 9,
+        Ban::Types => 10,
     }
 }
 

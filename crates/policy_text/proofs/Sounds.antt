@@ -1,7 +1,7 @@
 -- Ranges that are read are not empty, word by word, part by part and line by line.
 use Rattle.std.proofs.Common.{◌≡◌, ℕ, ◌+◌, ◌^◌, ◌<◌, ◌≤◌, ◌==◌, nat_lt, Bool, true, false, ◌&&◌, List, [], ◌∷◌, ◌++◌, length}
 use Rattle.std.proofs.Common.{Option, Some, None, Result, Ok, Err, IfSome, refl, subst, arith}
-use Rattle.std.specs.Prelude.{if◌then◌else◌, unwrap_or, ok_or, codes}
+use Rattle.std.specs.Prelude.{if◌then◌else◌, option_map, unwrap_or, ok_or, codes}
 use Rattle.std.specs.List.{AllByRecursion}
 use Rattle.std.proofs.Common.{ℤ, pos, negsuc, int_lt, ◌%◌, length-append}
 use Rattle.std.proofs.lemmas.Bool.Decides.{nat_tests}
@@ -16,13 +16,13 @@ use Rattle.reach.specs.declared.range.Range.{Range}
 use Rattle.policy_text.specs.declared.fault.PolicyCode.{PolicyCode}
 use Rattle.policy_text.specs.declared.fault.PolicyCode.TheVariants.{P1, P2, P4, P5, P6, P8}
 use Rattle.policy_text.specs.declared.part.Part.{Part}
-use Rattle.policy_text.specs.declared.part.Part.TheVariants.{Store, Load, Execute, Keep, Transmit, Halt, Timer, System}
+use Rattle.policy_text.specs.declared.part.Part.TheVariants.{Store, Load, Execute, Keep, Enter, Transmit, Halt, Timer, System}
 use Rattle.policy_text.specs.declared.part.Part.TheVariants.{Seal, Types, OrCaller}
 use Rattle.policy.specs.Terms.{Terms}
 use Rattle.policy_text.specs.Policy.{Definition, Parts, Line, Read, nothing_read, nothing, definition, rule, any_code}
 use Rattle.policy_text.specs.Policy.{◌>>=◌, uncommented, cut_at, cut_at_dots}
 use Rattle.policy_text.specs.Policy.{range, number_up_to, address_or_code, to_of, filled, range_of}
-use Rattle.policy_text.specs.Policy.{defined, ranges_by, ranges_in, ranges_of}
+use Rattle.policy_text.specs.Policy.{by_name, defined, device_named, ranges_by, ranges_in, ranges_of, register, spoken_of}
 use Rattle.policy_text.specs.Policy.{ranges_or, part_named, new_part, no_parts, within_of, answer_of, numbers_of, types_of, with_part}
 use Rattle.policy_text.specs.Policy.{caller_of}
 use Rattle.policy_text.specs.Policy.{part_read, parts_read, everywhere, said, after_when, after_any, code_by, code_of, rule_of}
@@ -81,13 +81,20 @@ defined_is (d ∷ ds) g name rs h =
       | false ↦ λ e. let k : ok_or (defined ds name) P2 ≡ Ok rs = rw e at h in defined_is ds g.1 name rs k
     ] refl
 
+named_is : (o : Option (List Range)) (device : Option ℕ) (rs : List Range) → (ok_or o P2 ≡ Ok rs → Good rs)
+    → by_name o device ≡ Ok rs → Good rs
+named_is (Some ranges) device rs good h = good h
+named_is None (Some from) rs good h =
+    subst Good (ok_inside (register from ∷ []) rs h) (record { some = omega arith; filled = (omega arith, tt) })
+named_is None None rs good h = cc
+
 module _ (symbols : List Symbol) (ds : List Definition) (g : AreGood ds) where
   by_is : (word : List ℕ) (cut : Option (List ℕ × List ℕ)) (rs : List Range) → ranges_by symbols ds word cut ≡ Ok rs → Good rs
   by_is word (Some sides) rs h =
       let one = bind_ok (range_of symbols sides.0 sides.1) (λ one. Ok (one ∷ [])) rs h in
       let k = ok_inside (one.0 ∷ []) rs one.2 in
       subst Good k (record { some = omega arith; filled = (range_is symbols sides.0 sides.1 one.0 one.1, tt) })
-  by_is word None rs h = defined_is ds g word rs h
+  by_is word None rs h = named_is (defined ds word) (device_named word) rs (defined_is ds g word rs) h
 
   in_is : (word : List ℕ) (rs : List Range) → ranges_in symbols ds word ≡ Ok rs → Good rs
   unfolding ranges_in
@@ -168,7 +175,12 @@ record ArePartsSound (parts : Parts) : Type 0 where
   load : IfSome parts.load AreFilled
   execute : IfSome parts.execute AreFilled
   keep : IfSome parts.keep AreFilled
+  enter : IfSome parts.enter AreFilled
   types : IfSome parts.types AreTypes
+
+stores_is : (o : Option (List Range)) → IfSome o AreFilled → AreFilled (unwrap_or (option_map (λ ranges. ranges ++ spoken_of) o) everywhere)
+stores_is (Some rs) s = all_append (λ (r : Range). r.from < r.to) rs spoken_of s (omega arith, (omega arith, (omega arith, tt)))
+stores_is None s = (omega arith, tt)
 
 or_everywhere : (o : Option (List Range)) → IfSome o AreFilled → AreFilled (unwrap_or o everywhere)
 or_everywhere (Some rs) s = s
@@ -179,10 +191,11 @@ said_is code parts g s =
     record {
       some_code = g.some;
       code = g.filled;
-      store = or_everywhere parts.store s.store;
+      store = stores_is parts.store s.store;
       load = or_everywhere parts.load s.load;
       execute = or_everywhere parts.execute s.execute;
       keep = or_everywhere parts.keep s.keep;
+      enter = or_everywhere parts.enter s.enter;
       types = s.types;
     }
 
@@ -195,47 +208,86 @@ module _ (symbols : List Symbol) (ds : List Definition) (g : AreGood ds) where
   with_is p s words Store q h =
       let k = bind_ok (within_of symbols ds words) (λ said. Ok (record p { store = Some said })) q h in
       subst ArePartsSound (ok_inside (record p { store = Some k.0 }) q k.2)
-      (record { store = within_is symbols ds g words k.0 k.1; load = s.load; execute = s.execute; keep = s.keep; types = s.types })
+      (record {
+        store = within_is symbols ds g words k.0 k.1;
+        load = s.load;
+        execute = s.execute;
+        keep = s.keep;
+        enter = s.enter;
+        types = s.types;
+      })
   with_is p s words Load q h =
       let k = bind_ok (within_of symbols ds words) (λ said. Ok (record p { load = Some said })) q h in
       subst ArePartsSound (ok_inside (record p { load = Some k.0 }) q k.2)
-      (record { store = s.store; load = within_is symbols ds g words k.0 k.1; execute = s.execute; keep = s.keep; types = s.types })
+      (record {
+        store = s.store;
+        load = within_is symbols ds g words k.0 k.1;
+        execute = s.execute;
+        keep = s.keep;
+        enter = s.enter;
+        types = s.types;
+      })
   with_is p s words Execute q h =
       let k = bind_ok (within_of symbols ds words) (λ said. Ok (record p { execute = Some said })) q h in
       subst ArePartsSound (ok_inside (record p { execute = Some k.0 }) q k.2)
-      (record { store = s.store; load = s.load; execute = within_is symbols ds g words k.0 k.1; keep = s.keep; types = s.types })
+      (record {
+        store = s.store;
+        load = s.load;
+        execute = within_is symbols ds g words k.0 k.1;
+        keep = s.keep;
+        enter = s.enter;
+        types = s.types;
+      })
   with_is p s words Keep q h =
       let k = bind_ok (within_of symbols ds words) (λ said. Ok (record p { keep = Some said })) q h in
       subst ArePartsSound (ok_inside (record p { keep = Some k.0 }) q k.2)
-      (record { store = s.store; load = s.load; execute = s.execute; keep = within_is symbols ds g words k.0 k.1; types = s.types })
+      (record {
+        store = s.store;
+        load = s.load;
+        execute = s.execute;
+        keep = within_is symbols ds g words k.0 k.1;
+        enter = s.enter;
+        types = s.types;
+      })
+  with_is p s words Enter q h =
+      let k = bind_ok (within_of symbols ds words) (λ said. Ok (record p { enter = Some said })) q h in
+      subst ArePartsSound (ok_inside (record p { enter = Some k.0 }) q k.2)
+      (record {
+        store = s.store;
+        load = s.load;
+        execute = s.execute;
+        keep = s.keep;
+        enter = within_is symbols ds g words k.0 k.1;
+        types = s.types;
+      })
   with_is p s words Transmit q h =
       let k = bind_ok (answer_of words) (λ said. Ok (record p { transmit = Some said })) q h in
       subst ArePartsSound (ok_inside (record p { transmit = Some k.0 }) q k.2)
-      (record { store = s.store; load = s.load; execute = s.execute; keep = s.keep; types = s.types })
+      (record { store = s.store; load = s.load; execute = s.execute; keep = s.keep; enter = s.enter; types = s.types })
   with_is p s words Halt q h =
       let k = bind_ok (answer_of words) (λ said. Ok (record p { halt = Some said })) q h in
       subst ArePartsSound (ok_inside (record p { halt = Some k.0 }) q k.2)
-      (record { store = s.store; load = s.load; execute = s.execute; keep = s.keep; types = s.types })
+      (record { store = s.store; load = s.load; execute = s.execute; keep = s.keep; enter = s.enter; types = s.types })
   with_is p s words Timer q h =
       let k = bind_ok (answer_of words) (λ said. Ok (record p { timer = Some said })) q h in
       subst ArePartsSound (ok_inside (record p { timer = Some k.0 }) q k.2)
-      (record { store = s.store; load = s.load; execute = s.execute; keep = s.keep; types = s.types })
+      (record { store = s.store; load = s.load; execute = s.execute; keep = s.keep; enter = s.enter; types = s.types })
   with_is p s words System q h =
       let k = bind_ok (answer_of words) (λ said. Ok (record p { system = Some said })) q h in
       subst ArePartsSound (ok_inside (record p { system = Some k.0 }) q k.2)
-      (record { store = s.store; load = s.load; execute = s.execute; keep = s.keep; types = s.types })
+      (record { store = s.store; load = s.load; execute = s.execute; keep = s.keep; enter = s.enter; types = s.types })
   with_is p s words Seal q h =
       let k = bind_ok (answer_of words) (λ said. Ok (record p { seal = Some said })) q h in
       subst ArePartsSound (ok_inside (record p { seal = Some k.0 }) q k.2)
-      (record { store = s.store; load = s.load; execute = s.execute; keep = s.keep; types = s.types })
+      (record { store = s.store; load = s.load; execute = s.execute; keep = s.keep; enter = s.enter; types = s.types })
   with_is p s words Types q h =
       let k = bind_ok (types_of words) (λ said. Ok (record p { types = Some said })) q h in
       subst ArePartsSound (ok_inside (record p { types = Some k.0 }) q k.2)
-      (record { store = s.store; load = s.load; execute = s.execute; keep = s.keep; types = types_is words k.0 k.1 })
+      (record { store = s.store; load = s.load; execute = s.execute; keep = s.keep; enter = s.enter; types = types_is words k.0 k.1 })
   with_is p s words OrCaller q h =
       let k = bind_ok (caller_of words) (λ said. Ok (record p { or_caller = said })) q h in
       subst ArePartsSound (ok_inside (record p { or_caller = k.0 }) q k.2)
-      (record { store = s.store; load = s.load; execute = s.execute; keep = s.keep; types = s.types })
+      (record { store = s.store; load = s.load; execute = s.execute; keep = s.keep; enter = s.enter; types = s.types })
 
   part_is : (p : Parts) (s : ArePartsSound p) (words : List (List ℕ)) (q : Parts) → part_read symbols ds p words ≡ Ok q → ArePartsSound q
   part_is p s [] q h = cc
@@ -258,7 +310,7 @@ module _ (symbols : List Symbol) (ds : List Definition) (g : AreGood ds) where
       let read = parts_read symbols ds no_parts (pieces_between after) in
       let code = bind_ok (code_of symbols ds (words_of before)) (λ code. read >>= λ parts. Ok (said code parts)) r h in
       let parts = bind_ok read (λ parts. Ok (said code.0 parts)) r code.2 in
-      let none : ArePartsSound no_parts = record { store = tt; load = tt; execute = tt; keep = tt; types = tt } in
+      let none : ArePartsSound no_parts = record { store = tt; load = tt; execute = tt; keep = tt; enter = tt; types = tt } in
       subst IsSound (ok_inside (said code.0 parts.0) r parts.2)
       (said_is code.0 parts.0 (code_is (after_when (words_of before)) code.0 code.1)
       (parts_is no_parts none (pieces_between after) parts.0 parts.1))

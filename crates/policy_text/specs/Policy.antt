@@ -1,8 +1,8 @@
 -- Policies as texts: lines that define ranges by name, lines that are rules about the code in ranges, and lines that name ranges of any
 -- code; and the first faulty line.
-use Rattle.std.specs.Prelude.{ℕ, ◌+◌, ◌-◌, ◌^◌, Bool, true, false, not, ◌&&◌, ◌==◌, nat_lt, nat_le, if◌then◌else◌}
+use Rattle.std.specs.Prelude.{ℕ, ◌+◌, ◌-◌, ◌^◌, Bool, true, false, not, ◌&&◌, ◌||◌, ◌==◌, nat_lt, nat_le, if◌then◌else◌}
 use Rattle.std.specs.Prelude.{List, [], ◌∷◌, ◌++◌, length}
-use Rattle.std.specs.Prelude.{drop, get_or, slice_index, Option, Some, None, unwrap_or, ok_or, Result, Ok, Err, codes}
+use Rattle.std.specs.Prelude.{drop, get_or, slice_index, Option, Some, None, option_map, unwrap_or, ok_or, Result, Ok, Err, codes}
 use Rattle.std.specs.Option.{is_some}
 use Rattle.std.specs.List.{before_first}
 use Rattle.asm_lines.specs.Text.{is_digit, is_name, is_dot, pieces_between, trimmed}
@@ -10,12 +10,13 @@ use Rattle.asm_lines.specs.Statement.{is_word}
 use Rattle.symbols.specs.Symbols.{Symbol, lines_of}
 use Rattle.asm_lines.specs.Words.{words_of, number_between, read_number}
 use Rattle.symbols.specs.Symbols.{address_in}
+use Rattle.devices.specs.Devices.{halt, timer, timer_compare, transmit, receive, status, control_register}
 use Rattle.reach.specs.declared.range.Range.{Range}
 use Rattle.policy.specs.Terms.{Terms}
 use Rattle.policy_text.specs.declared.fault.PolicyCode.{PolicyCode}
 use Rattle.policy_text.specs.declared.fault.PolicyCode.TheVariants.{P1, P2, P3, P4, P5, P6, P7, P8}
 use Rattle.policy_text.specs.declared.part.Part.{Part}
-use Rattle.policy_text.specs.declared.part.Part.TheVariants.{Store, Load, Execute, Keep, Transmit, Halt, Timer, System}
+use Rattle.policy_text.specs.declared.part.Part.TheVariants.{Store, Load, Execute, Keep, Enter, Transmit, Halt, Timer, System}
 use Rattle.policy_text.specs.declared.part.Part.TheVariants.{Seal, Types, OrCaller}
 
 -- a name and the ranges that it stands for
@@ -88,10 +89,39 @@ abbrev pub defined : List Definition → List ℕ → Option (List Range)
 defined [] name = None
 defined (d ∷ ds) name = if is_word d.name name then Some d.ranges else defined ds name
 
+-- the device registers: the name of each, and where it begins
+abbrev pub device_names : List (List ℕ × ℕ)
+device_names =
+    (codes "halt", halt)
+    ∷ (codes "mtimecmp", timer_compare)
+    ∷ (codes "mtime", timer)
+    ∷ (codes "transmit", transmit)
+    ∷ (codes "receive", receive)
+    ∷ (codes "status", status)
+    ∷ (codes "control", control_register)
+    ∷ []
+
+abbrev pub device_among : List (List ℕ × ℕ) → List ℕ → Option ℕ
+device_among [] name = None
+device_among (d ∷ ds) name = if is_word name d.0 then Some d.1 else device_among ds name
+
+unfoldable pub device_named : List ℕ → Option ℕ
+device_named name = device_among device_names name
+
+-- the bytes of a device register
+abbrev pub register : ℕ → Range
+register from = range from (from + 8)
+
+-- the ranges of a name: those that a line defines, or a device register's
+abbrev pub by_name : Option (List Range) → Option ℕ → Result (List Range) PolicyCode
+by_name (Some ranges) device = Ok ranges
+by_name None (Some from) = Ok (register from ∷ [])
+by_name None None = Err P2
+
 -- the ranges of a word: one, or those of a name
 abbrev pub ranges_by : List Symbol → List Definition → List ℕ → Option (List ℕ × List ℕ) → Result (List Range) PolicyCode
 ranges_by symbols definitions word (Some sides) = range_of symbols sides.0 sides.1 >>= λ one. Ok (one ∷ [])
-ranges_by symbols definitions word None = ok_or (defined definitions word) P2
+ranges_by symbols definitions word None = by_name (defined definitions word) (device_named word)
 
 unfoldable pub ranges_in : List Symbol → List Definition → List ℕ → Result (List Range) PolicyCode
 ranges_in symbols definitions word = ranges_by symbols definitions word (cut_at_dots word)
@@ -116,6 +146,7 @@ part_names =
     ∷ (codes "load", Load)
     ∷ (codes "execute", Execute)
     ∷ (codes "keep", Keep)
+    ∷ (codes "enter", Enter)
     ∷ (codes "transmit", Transmit)
     ∷ (codes "halt", Halt)
     ∷ (codes "timer", Timer)
@@ -138,6 +169,7 @@ pub record Parts : Type 0 where
   pub load : Option (List Range)
   pub execute : Option (List Range)
   pub keep : Option (List Range)
+  pub enter : Option (List Range)
   pub transmit : Option Bool
   pub halt : Option Bool
   pub timer : Option Bool
@@ -153,6 +185,7 @@ no_parts =
       load = None;
       execute = None;
       keep = None;
+      enter = None;
       transmit = None;
       halt = None;
       timer = None;
@@ -167,6 +200,7 @@ has_part parts Store = is_some parts.store
 has_part parts Load = is_some parts.load
 has_part parts Execute = is_some parts.execute
 has_part parts Keep = is_some parts.keep
+has_part parts Enter = is_some parts.enter
 has_part parts Transmit = is_some parts.transmit
 has_part parts Halt = is_some parts.halt
 has_part parts Timer = is_some parts.timer
@@ -214,6 +248,7 @@ with_part symbols definitions parts words Load = within_of symbols definitions w
 with_part symbols definitions parts words Execute =
     within_of symbols definitions words >>= λ said. Ok (record parts { execute = Some said })
 with_part symbols definitions parts words Keep = within_of symbols definitions words >>= λ said. Ok (record parts { keep = Some said })
+with_part symbols definitions parts words Enter = within_of symbols definitions words >>= λ said. Ok (record parts { enter = Some said })
 with_part symbols definitions parts words Transmit = answer_of words >>= λ said. Ok (record parts { transmit = Some said })
 with_part symbols definitions parts words Halt = answer_of words >>= λ said. Ok (record parts { halt = Some said })
 with_part symbols definitions parts words Timer = answer_of words >>= λ said. Ok (record parts { timer = Some said })
@@ -242,15 +277,20 @@ parts_read symbols definitions parts (text ∷ texts) =
 abbrev pub everywhere : List Range
 everywhere = range 0 (2 ^ 64) ∷ []
 
+-- the device registers that parts of their own are about, for stores
+abbrev pub spoken_of : List Range
+spoken_of = register halt ∷ register timer_compare ∷ register transmit ∷ []
+
 -- the rule of these parts: one that isn't there forbids nothing, and without `or caller` nothing of its caller's is allowed
 abbrev pub said : List Range → Parts → Terms
 said code parts =
     record {
       code = code;
-      store = unwrap_or parts.store everywhere;
+      store = unwrap_or (option_map (λ ranges. ranges ++ spoken_of) parts.store) everywhere;
       load = unwrap_or parts.load everywhere;
       execute = unwrap_or parts.execute everywhere;
       keep = unwrap_or parts.keep everywhere;
+      enter = unwrap_or parts.enter everywhere;
       transmit = unwrap_or parts.transmit true;
       halt = unwrap_or parts.halt true;
       timer = unwrap_or parts.timer true;
@@ -296,9 +336,9 @@ abbrev pub name_of : List (List ℕ) → Result (List ℕ) PolicyCode
 name_of [] = Err P1
 name_of (word ∷ words) = if is_name word && (not (is_dot word) && (length words == 0)) then Ok word else Err P1
 
--- a name that isn't defined, or P3
+-- a name that isn't defined and is no device register's, or P3
 abbrev pub new_name : List Definition → List ℕ → Result (List ℕ) PolicyCode
-new_name definitions name = if is_some (defined definitions name) then Err P3 else Ok name
+new_name definitions name = if is_some (defined definitions name) || is_some (device_named name) then Err P3 else Ok name
 
 -- the definition that the texts before an equals sign and after it say
 unfoldable pub definition_of : List Symbol → List Definition → List ℕ → List ℕ → Result Definition PolicyCode

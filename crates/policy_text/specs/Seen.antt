@@ -45,6 +45,7 @@ seen_parts p =
       load = option_map (λ ranges. ranges.items) p.load;
       execute = option_map (λ ranges. ranges.items) p.execute;
       keep = option_map (λ ranges. ranges.items) p.keep;
+      enter = option_map (λ ranges. ranges.items) p.enter;
       transmit = p.transmit;
       halt = p.halt;
       timer = p.timer;

@@ -16,4 +16,5 @@ pub record IsSound (rule : Terms) : Type 0 where
   pub load : AreFilled rule.load
   pub execute : AreFilled rule.execute
   pub keep : AreFilled rule.keep
+  pub enter : AreFilled rule.enter
   pub types : IfSome rule.types (AllByRecursion (λ t. t ≤ 0x3FFFB))

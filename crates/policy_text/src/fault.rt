@@ -13,15 +13,16 @@ pub enum PolicyCode {
     /// or before the first `:` anything but `when pc in` and a word or more; or there is no `=` and no `:`, and the line is anything but
     /// `any code in` and a word or more.
     P1,
-    /// An unknown name: no earlier line defines it, or, at an end of a range, it is neither a number nor a label and begins with no digit.
+    /// An unknown name: no earlier line defines it and it is no device register's, or, at an end of a range, it is neither a number nor a
+    /// label and begins with no digit.
     P2,
-    /// A name that is defined already.
+    /// A name that is defined already, or is a device register's.
     P3,
     /// A number that is malformed or out of its limits, also where a range would end past 2^64.
     P4,
     /// An empty range: it ends where it begins, or before.
     P5,
-    /// A part that begins with another word than the nine names, or has no word.
+    /// A part that begins with another word than the names of parts, or has no word.
     P6,
     /// A part that the rule has already.
     P7,

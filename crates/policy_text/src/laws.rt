@@ -4,7 +4,7 @@ ghost use Rattle.std.specs.List.{AllByRecursion};
 ghost use Rattle.symbols.specs.Symbols.{Symbol, symbol};
 ghost use Rattle.policy_text.specs.declared.fault.PolicyCode.TheVariants.{P1, P2, P3, P4, P5, P6, P7, P8};
 ghost use Rattle.policy.specs.Terms.{Terms};
-ghost use Rattle.policy_text.specs.Policy.{range, everywhere, policy_of};
+ghost use Rattle.policy_text.specs.Policy.{range, everywhere, policy_of, spoken_of};
 ghost use Rattle.policy_text.specs.Sound.{IsSound};
 
 /// A rule of a policy that is read is about the code of some range, none of its ranges is empty, and its object types are at most
@@ -14,21 +14,23 @@ pub fn rules_are_sound()
         → AllByRecursion (λ r. IsSound r.1) rules }
 {}
 
-/// A policy with a definition, a label, a comment, an empty line and two rules, of which the second lets callers lend.
+/// A policy with a definition, a label, a device register, a comment, an empty line and two rules, of which the second lets callers lend.
 pub fn worked_policy()
     ensures { policy_of (symbol 0x80001000 (codes "vault") ∷ [])
         (codes "ram = 0x80000000..+0x100 vault..+16 # areas\n"
         ++ codes "\n"
-        ++ codes "when pc in ram: store within ram 0..4, load no, keep within vault..+32, transmit no, types 4 5\n"
+        ++ codes "when pc in ram: store within ram control, load no, keep within vault..+32, enter within vault..+16, "
+        ++ codes "transmit no, types 4 5\n"
         ++ codes "when pc in vault..0x80002000: system no, or caller, seal yes, types none")
         ≡ Ok ((
           3,
           record {
             code = range 0x80000000 0x80000100 ∷ range 0x80001000 0x80001010 ∷ [];
-            store = range 0x80000000 0x80000100 ∷ range 0x80001000 0x80001010 ∷ range 0 4 ∷ [];
+            store = range 0x80000000 0x80000100 ∷ range 0x80001000 0x80001010 ∷ range 0x10000018 0x10000020 ∷ spoken_of;
             load = [];
             execute = everywhere;
             keep = range 0x80001000 0x80001020 ∷ [];
+            enter = range 0x80001000 0x80001010 ∷ [];
             transmit = false;
             halt = true;
             timer = true;
@@ -45,6 +47,7 @@ pub fn worked_policy()
             load = everywhere;
             execute = everywhere;
             keep = everywhere;
+            enter = everywhere;
             transmit = true;
             halt = true;
             timer = true;
@@ -60,6 +63,7 @@ pub fn worked_policy()
 pub fn worked_faults()
     ensures form { policy_of [] (codes "when pc at 0..4: halt no") ≡ Err (1, P1) }
     ensures unknown { policy_of [] (codes "when pc in ram: halt no") ≡ Err (1, P2) }
+    ensures device { policy_of [] (codes "mtime = 0..1") ≡ Err (1, P3) }
     ensures twice { policy_of [] (codes "a = 0..1\na = 0..1") ≡ Err (2, P3) }
     ensures number { policy_of [] (codes "when pc in 0..4: types 0x3FFFC") ≡ Err (1, P4) }
     ensures empty { policy_of [] (codes "a = 4..4") ≡ Err (1, P5) }

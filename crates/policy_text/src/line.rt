@@ -1,19 +1,19 @@
 //! What a line says.
-ghost use Rattle.std.specs.Prelude.{◌≡◌, option_map, unwrap_or, IfOk};
+ghost use Rattle.std.specs.Prelude.{◌≡◌, ◌++◌, option_map, unwrap_or, IfOk};
 ghost use Rattle.std.specs.Result.{result_map_both};
 ghost use Rattle.asm_lines.specs.Words.{words_of};
 ghost use Rattle.policy_text.specs.Policy.{everywhere, said, after_when, after_any, code_of, rule_of, name_of, new_name, definition_of};
-ghost use Rattle.policy_text.specs.Policy.{any_line, rule_line, line_of};
+ghost use Rattle.policy_text.specs.Policy.{any_line, rule_line, line_of, spoken_of};
 ghost use Rattle.policy.specs.Terms.{terms};
 ghost use Rattle.policy_text.specs.Seen.{Gives, seen_line, seen_named, seen_names, seen_parts};
 
 use crate::cut::cut_at;
 use crate::fault::{Fault, PolicyCode};
 use crate::parts::{Parts, is_end, read_parts};
-use crate::ranges::{END, Named, defined, ranges_or};
+use crate::ranges::{END, Named, defined, device_named, ranges_or, register};
 use asm_lines::{is_dot, is_name, is_word, split_word};
 use policy::Rule;
-use reach::Range;
+use reach::{HALT, Range, TIMER_COMPARE, TRANSMIT};
 use std::alloc::{AllocError, Global};
 use symbols::Symbols;
 
@@ -97,16 +97,30 @@ fn or_everywhere(alloc: Global, ranges: Option<Vec<Range>>) -> Result<Vec<Range>
     }
 }
 
+/// The ranges for stores: with the device registers that parts of their own are about.
+fn stores(alloc: Global, ranges: Option<Vec<Range>>) -> Result<Vec<Range>, AllocError>
+    ensures { IfOk result (λ v. v.items ≡ unwrap_or (option_map (λ ranges. ranges ++ spoken_of)
+        (option_map (λ ranges. ranges.items) ranges)) everywhere) }
+{
+    let Some(mut all) = ranges else {
+        return or_everywhere(alloc, None);
+    };
+    let spoken_of = [register(HALT), register(TIMER_COMPARE), register(TRANSMIT)];
+    all.extend_from_slice(&spoken_of)?;
+    Ok(all)
+}
+
 /// The rule of these parts.
 fn made(alloc: Global, code: Vec<Range>, parts: Parts) -> Result<Rule, AllocError>
     ensures { IfOk result (λ rule. terms rule ≡ said code.items (seen_parts parts)) }
 {
     Ok(Rule {
         code,
-        store: or_everywhere(alloc, parts.store)?,
+        store: stores(alloc, parts.store)?,
         load: or_everywhere(alloc, parts.load)?,
         execute: or_everywhere(alloc, parts.execute)?,
         keep: or_everywhere(alloc, parts.keep)?,
+        enter: or_everywhere(alloc, parts.enter)?,
         transmit: parts.transmit.unwrap_or(true),
         halt: parts.halt.unwrap_or(true),
         timer: parts.timer.unwrap_or(true),
@@ -155,7 +169,7 @@ fn definition<'a>(
     ensures { Gives seen_named result (definition_of symbols.now (seen_names definitions.now) before.now after.now) }
 {
     let name = name(before)?;
-    if defined(definitions, name).is_some() {
+    if defined(definitions, name).is_some() || device_named(name).is_some() {
         return Err(Fault::Code(PolicyCode::P3));
     }
     let ranges = ranges_or(PolicyCode::P1, alloc, symbols, definitions, after)?;

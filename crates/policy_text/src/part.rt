@@ -11,6 +11,7 @@ pub(crate) enum Part {
     Load,
     Execute,
     Keep,
+    Enter,
     Transmit,
     Halt,
     Timer,
@@ -33,6 +34,8 @@ pub(crate) fn part_named(word: &[u8]) -> Option<Part>
         Some(Part::Execute)
     } else if is_word(word, "keep") {
         Some(Part::Keep)
+    } else if is_word(word, "enter") {
+        Some(Part::Enter)
     } else if is_word(word, "transmit") {
         Some(Part::Transmit)
     } else if is_word(word, "halt") {

@@ -2,13 +2,14 @@
 ghost use Rattle.std.specs.Prelude.{◌≡◌, ◌≤◌, ◌^◌, option_map, IfOk};
 ghost use Rattle.asm_lines.specs.Words.{words_of};
 ghost use Rattle.policy_text.specs.Policy.{number_up_to, address_or_code, end_of, to_of, filled, range_of, defined, ranges_in, ranges_of};
-ghost use Rattle.policy_text.specs.Policy.{ranges_or};
+ghost use Rattle.policy_text.specs.Policy.{ranges_or, device_named, register};
 ghost use Rattle.policy_text.specs.Seen.{Gives, Adds, seen_names};
 
 use crate::cut::cut_at_dots;
 use crate::fault::{Fault, PolicyCode};
-use asm_lines::{natural, split_word};
-use reach::Range;
+use asm_lines::{is_word, natural, split_word};
+use devices::RECEIVE;
+use reach::{CONTROL, HALT, Range, STATUS, TIMER, TIMER_COMPARE, TRANSMIT};
 use std::alloc::Global;
 use symbols::Symbols;
 
@@ -91,6 +92,38 @@ pub(crate) fn defined<'a>(definitions: &'a [Named], name: &[u8]) -> Option<&'a [
     None
 }
 
+/// Where the device register of this name begins.
+#[tactic(auto, unfolding(crate::specs::Policy::device_named))]
+pub(crate) fn device_named(name: &[u8]) -> Option<u64>
+    ensures { result ≡ device_named name.now }
+{
+    if is_word(name, "halt") {
+        Some(HALT)
+    } else if is_word(name, "mtimecmp") {
+        Some(TIMER_COMPARE)
+    } else if is_word(name, "mtime") {
+        Some(TIMER)
+    } else if is_word(name, "transmit") {
+        Some(TRANSMIT)
+    } else if is_word(name, "receive") {
+        Some(RECEIVE)
+    } else if is_word(name, "status") {
+        Some(STATUS)
+    } else if is_word(name, "control") {
+        Some(CONTROL)
+    } else {
+        None
+    }
+}
+
+/// The bytes of a device register.
+pub(crate) fn register(from: u64) -> Range
+    ensures { result ≡ register from }
+{
+    let to = u128::from(from) + 8;
+    Range { from, to }
+}
+
 /// Appends the ranges of a word.
 #[tactic(auto, unfolding(crate::specs::Policy::ranges_in))]
 fn push_ranges(
@@ -105,7 +138,10 @@ fn push_ranges(
         Some((before, after)) => out.push(range(symbols, before, after)?)?,
         None => match defined(definitions, word) {
             Some(ranges) => out.extend_from_slice(ranges)?,
-            None => return Err(Fault::Code(PolicyCode::P2)),
+            None => match device_named(word) {
+                Some(from) => out.push(register(from))?,
+                None => return Err(Fault::Code(PolicyCode::P2)),
+            },
         },
     }
     Ok(())

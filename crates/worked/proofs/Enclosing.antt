@@ -118,7 +118,7 @@ no-type v sealed free (by_member c one opens) = no-seal (value_otype v) c (there
 grounded-keeps : (v : CapValue) → IsGroundedBy IsOneOfTheTwo v → BreaksRule counter_rule v → ⊥
 grounded-keeps v earned broken =
     elim (breaks-outer v earned.covered.source earned.covered.within counter_rule broken.ban broken.breaks) [
-      | inl outer ↦ member-keeps earned.covered.source earned.covered.member (record { ban = broken.ban; breaks = outer })
+      | inl outer ↦ member-keeps earned.covered.source earned.covered.member outer
       | inr is ↦
           let both = beyond-sealed v counter_rule.types (subst (λ part. Breaks counter_rule part v) is broken.breaks) in
           no-type v both.0 both.1 (earned.seal both.0)

@@ -64,6 +64,7 @@ counter_rule = record {
   load = code_range ∷ data_range ∷ [];
   execute = code_range ∷ [];
   keep = [];
+  enter = [];
   transmit = false;
   halt = false;
   timer = false;

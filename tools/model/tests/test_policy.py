@@ -3,9 +3,9 @@
 import unittest
 from random import Random
 
-from model.capabilities import ONE, capability, seal
+from model.capabilities import ONE, capability, seal, set_address
 from model.devices import HALT, RAM, TIMER_COMPARE, TRANSMIT
-from model.policy import (PARTS, Breach, breaches, breaks, entry, first_breach, is_called, lent, lies_within, listed, range_text, read,
+from model.policy import (PARTS, REGISTERS, SPOKEN_OF, Breach, breaches, breaks, entry, first_breach, is_called, lent, lies_within, listed, range_text, read,
                           read_all, refused, stopped, terms_after)
 from model.reach import KEEPING, ROOT, Member
 from model.rights import (ACCESS_SYSTEM_REGISTERS, ALL, EXECUTE, GREATEST_SEALING_TYPE, LOAD, SEAL, STORE, STORE_CAPABILITY, STORE_LOCAL,
@@ -39,7 +39,7 @@ class Texts(unittest.TestCase):
 
     def test_what_parts_allow(self):
         rules, _ = read("when pc in 0..1: store no, load within 0..1 5..+2, execute within code..data, transmit yes, types none", LABELS)
-        self.assertEqual(rules[0].allowed, {"store": [], "load": [(0, 1), (5, 7)], "execute": [(RAM, RAM + 16)], "transmit": True,
+        self.assertEqual(rules[0].allowed, {"store": SPOKEN_OF, "load": [(0, 1), (5, 7)], "execute": [(RAM, RAM + 16)], "transmit": True,
                                             "types": []})
 
     def test_or_caller_stands_in_any_place_and_is_no_part_that_is_broken(self):
@@ -114,6 +114,30 @@ class Parts(unittest.TestCase):
         for one in (STORE, STORE_CAPABILITY, STORE_LOCAL):
             self.assertFalse(breaks(bounds(RAM, RAM + 16, ALL ^ one), "keep", []))
 
+    def test_a_part_for_stores_or_loads_is_about_device_registers_that_begin_in_the_bounds(self):
+        for [(place, _)] in REGISTERS.values():
+            for name, perms in (("store", STORE), ("load", LOAD), ("execute", EXECUTE)):
+                for first, end, allowed, broken in ((place, place + 1, [], name != "execute"), (place + 1, place + 8, [], False),
+                                                    (place - 4, place + 4, [(place, place + 1)], False),
+                                                    (place, place + 8, [(place + 1, place + 8)], name != "execute")):
+                    self.assertEqual(breaks(bounds(first, end, perms), name, allowed), broken)
+        self.assertEqual([read(f"when pc in 0..1: store {said}", {})[0][0].allowed["store"] for said in ("within mtime", "no")],
+                         [REGISTERS["mtime"] + SPOKEN_OF, SPOKEN_OF])
+
+    def test_entering_takes_a_seal_and_execute_and_an_instruction_in_ram(self):
+        def entries(address, perms=EXECUTE, first=RAM, end=RAM + 64, make=ONE["CSealEntry"]):
+            return make(set_address(bounds(first, end, perms), address))
+        for value, allowed, broken in ((entries(RAM + 8), [], True), (entries(RAM + 11), [(RAM + 8, RAM + 9)], False),
+                                       (entries(RAM + 8), [(RAM, RAM + 8), (RAM + 9, RAM + 64)], True),
+                                       (entries(RAM + 60), [], True), (entries(RAM + 64), [], False),
+                                       (entries(RAM - 4, first=RAM - 8), [], False),
+                                       (entries(RAM + 8, ALL, make=lambda it: seal(it, root(7))), [], True),
+                                       (entries(RAM + 8, ALL ^ EXECUTE, make=lambda it: seal(it, root(7))), [], False),
+                                       (entries(RAM + 8, make=lambda it: it), [], False)):
+            self.assertEqual(breaks(value, "enter", allowed), broken)
+        rules, _ = read(f"when pc in 0..1: enter no\nwhen pc in 0..1: enter no, execute within {RAM}..+8", {})
+        self.assertEqual([one.rule.line for place in (RAM, RAM + 8) for one in breaches(rules, 0, members(entries(place)))], [2])
+
     def test_a_device_counts_by_its_first_byte(self):
         for name, place in (("transmit", TRANSMIT), ("halt", HALT), ("timer", TIMER_COMPARE)):
             for first, end, perms, broken in ((place, place + 1, STORE, True), (place + 1, place + 8, STORE, False),
@@ -185,9 +209,10 @@ class Calls(unittest.TestCase):
     def test_ranges_by_right_of_what_is_unsealed(self):
         given = (bounds(RAM, RAM + 8, STORE), bounds(RAM + 4, RAM + 32, LOAD | EXECUTE), seal(bounds(RAM, RAM + 64, ALL), root(7)),
                  bounds(RAM + 16, RAM + 40, KEEPING))
-        self.assertEqual(self.allowed("store no, load within 5..6, execute no, keep no", *given),
-                         {"store": [(RAM, RAM + 8), (RAM + 16, RAM + 40)], "load": [(5, 6), (RAM + 4, RAM + 32)],
-                          "execute": [(RAM + 4, RAM + 32)], "keep": [(RAM + 16, RAM + 40)]})
+        self.assertEqual(self.allowed("store no, load within 5..6, execute no, keep no, enter within 8..9", *given),
+                         {"store": SPOKEN_OF + [(RAM, RAM + 8), (RAM + 16, RAM + 40)], "load": [(5, 6), (RAM + 4, RAM + 32)],
+                          "execute": [(RAM + 4, RAM + 32)], "keep": [(RAM + 16, RAM + 40)],
+                          "enter": [(8, 9), (RAM, RAM + 1)]})
 
     def test_what_opens_it_allows_all_of_a_part_that_says_no(self):
         most = GREATEST_SEALING_TYPE
@@ -211,18 +236,18 @@ class Calls(unittest.TestCase):
     def test_nothing_of_what_the_caller_reaches_breaks_the_rule(self):
         said = ", ".join(f"{name} no" for name in PARTS[:-1]) + ", types none"
         rules, _ = read(f"when pc in 0..1: {said}, or caller", {})
-        found = members(root(0), bounds(RAM, RAM + 8, STORE), seal(root(0), root(7)), bounds(RAM - 8, RAM + 8, ALL))
+        found = members(root(0), bounds(RAM, RAM + 8, STORE), seal(root(RAM), root(7)), bounds(RAM - 8, RAM + 8, ALL))
         self.assertEqual(len(breaches(rules, 0, found)), len(PARTS))
         self.assertEqual(breaches([lent(rules[0], found)], 0, found), [])
 
     def test_each_call_replaces_the_terms_of_the_rules_that_have_it(self):
         rules, _ = read("when pc in 8..16: store no\nwhen pc in 8..16: store no, or caller\nwhen pc in 0..16: store no, or caller", {})
         first = terms_after(rules, rules, 0, 8, members(bounds(RAM, RAM + 8, STORE)))
-        self.assertEqual([rule.allowed["store"] for rule in first], [[], [(RAM, RAM + 8)], []])
+        self.assertEqual([rule.allowed["store"] for rule in first], [SPOKEN_OF, SPOKEN_OF + [(RAM, RAM + 8)], SPOKEN_OF])
         self.assertEqual(terms_after(rules, first, 8, 12, members(root(0))), first)
         self.assertEqual(terms_after(rules, first, 12, 16, members(root(0))), first)
         second = terms_after(rules, first, 20, 12, members(bounds(RAM + 8, RAM + 16, STORE)))
-        self.assertEqual([rule.allowed["store"] for rule in second], [[], [(RAM + 8, RAM + 16)], [(RAM + 8, RAM + 16)]])
+        self.assertEqual([rule.allowed["store"] for rule in second], [SPOKEN_OF, *[SPOKEN_OF + [(RAM + 8, RAM + 16)]] * 2])
         self.assertEqual([rule.text for rule in second], [rule.text for rule in rules])
 
 
@@ -241,12 +266,12 @@ class Entries(unittest.TestCase):
     def test_a_rule_allows_what_is_reachable_and_no_more(self):
         nothing = entry((16, 32), [])
         self.assertEqual(nothing, "when pc in 0x0000000000000010..0x0000000000000020: store no, load no, execute no, keep no, "
-                         "transmit no, halt no, timer no, system no, seal no, types none\n")
+                         "enter no, transmit no, halt no, timer no, system no, seal no, types none\n")
         found = members(bounds(HALT, HALT + 1, KEEPING), bounds(8, 16, LOAD | SEAL), bounds(16, 24, LOAD), seal(root(0), root(9)),
                         seal(root(0), root(4)), seal(root(0), root(9)))
         text = entry((16, 32), found)
         self.assertEqual(text.partition(": ")[2], (
             "store within 0x0000000000100000..0x0000000000100001, load within 0x0000000000000008..0x0000000000000018, execute no, "
-            "keep within 0x0000000000100000..0x0000000000100001, transmit no, halt yes, timer no, system no, seal yes, types 4 9\n"))
+            "keep within 0x0000000000100000..0x0000000000100001, enter no, transmit no, halt yes, timer no, system no, seal yes, types 4 9\n"))
         rules, fault = read(text, {})
         self.assertEqual((fault, breaches(rules, 16, found)), (None, []))

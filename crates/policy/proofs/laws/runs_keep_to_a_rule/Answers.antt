@@ -1,4 +1,5 @@
 use Rattle.policy.proofs.Whole.{bytes-stay, tags-stay, nothing-kept, system-stays, nothing-sent}
+use Rattle.policy.proofs.Whole.{console-stays, leads-inside, traps-enter}
 use Rattle.policy.proofs.Whole.{halted-stays, compare-stays, fetched-inside, types-allowed, none-unseals, sends-same, ends-same}
 use Rattle.policy.proofs.laws.runs_keep_to_a_rule.Goals as goal
 
@@ -40,3 +41,12 @@ returns-clause-same_bytes c = λ rules rule events done s t some keep there abou
 pub returns-clause-same_state : goal.returns-clause-same_state
 returns-clause-same_state c = λ rules rule events done s t some keep there about.
     ends-same rules rule events there s done some keep about t
+
+pub returns-clause-console : goal.returns-clause-console
+returns-clause-console c = λ rules rule events done s some keep there about. console-stays rules rule events there s done some keep about
+
+pub returns-clause-leads : goal.returns-clause-leads
+returns-clause-leads c = λ rules rule events done s some keep there about. leads-inside rules rule events there s done some keep about
+
+pub returns-clause-traps : goal.returns-clause-traps
+returns-clause-traps c = λ rules rule events done s some keep there about. traps-enter rules rule events there s done some keep about
