@@ -116,7 +116,8 @@ def lines_to_compare(words, planned):
     spins = planned[:1] == ["prove"] or planned[:1] == ["run"] and int(planned[2]) > MANY
     yield words, planned, SPINS if spins else WATCHES
     if planned[:1] in (["run"], ["audit"]):
-        steps = (planned[2], f"+{planned[2]}", f"{int(planned[2]):#x}")
+        count = int(planned[2])
+        steps = (planned[2], f"+{count}", f"{count:#x}", f"{count:_}", f"{count:#_x}")
         more = str(FEW if "--trace" in planned or max(int(planned[4]), int(planned[6])) < FEW else MANY)
         given = [] if "--input" in planned else ["--input", "keys"]
         yield *([more if word in steps else word for word in line] + given for line in (words, planned)), WATCHES

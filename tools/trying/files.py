@@ -61,7 +61,7 @@ FILES = [
     File("pasts", conversations.session, 202, piece=10),
     File("talks", conversations.talk, 171, piece=20),
     File("runs", programs.program, 15),
-    File("plans", command_lines.plan, 280, piece=10),
+    File("plans", command_lines.plan, 292, piece=10),
     File("listings", command_lines.listing, 42),
     File("worlds", programs.worlds, 14),
     File("schedules", schedules.schedule, 211, piece=8),

@@ -1,28 +1,24 @@
 -- What is found of arguments, and the plans that it is.
-use Rattle.std.proofs.Common.{◌≡◌, ◌∙◌, ℕ, ◌<◌, ◌≤◌, ◌^◌, List, [], ◌∷◌, refl, sym, ap, subst, codes, arith}
+use Rattle.std.proofs.Common.{◌≡◌, ◌∙◌, ℕ, ◌+◌, ◌*◌, ◌<◌, ◌≤◌, ◌^◌, List, [], ◌∷◌, refl, sym, ap, subst, codes, arith}
 use Rattle.std.specs.Prelude.{Option, Some, None, IfSome, IsSomeAnd, IsTrue, IfOk, IfErr, Result}
 use Rattle.std.specs.Prelude.{Ok, Err, true, false, Bool, ◌&&◌, nat_lt, nat_le, length}
 use Rattle.std.specs.Prelude.{if◌then◌else◌, option_map, bytes_eq}
 use Rattle.std.specs.List.{AllByRecursion, AllZip, list_all}
 use Rattle.std.specs.Char.{digit_value}
-use Rattle.std.specs.Result.{OkIff, result_ok}
-use Rattle.std.specs.Str.Parse.{AllDigits, IsNumeral, digits_value}
+use Rattle.std.specs.Str.Parse.{digits_value_after}
 use Rattle.clap.specs.Words.{App, app_of, Row, Text, first_of}
 use Rattle.clap.specs.declared.builder.command.Command.{Command}
 use Rattle.command_line.specs.declared.plans.Plan.{Plan}
 use Rattle.command_line.specs.declared.plans.Plan.TheVariants.{Go, Run, Audit, First}
 use Rattle.command_line.specs.declared.table.Takes.{Takes}
 use Rattle.command_line.specs.declared.table.Takes.TheVariants.{Nothing, Ends, Read, ReadBeside, Written, Count, Start, Number}
-use Rattle.command_line.specs.CommandLine.{Line, Entry, Said, File, Amount, Used, Explained, is_numeral}
-use Rattle.command_line.specs.CommandLine.{number_in, count_in, is_within, counted, said_by, unsaid, why_of}
+use Rattle.command_line.specs.CommandLine.{Line, Entry, Said, File, Amount, Used, Explained, are_numerals, number_after}
+use Rattle.command_line.specs.CommandLine.{count_in, is_within, counted, said_by, unsaid, why_of}
 use Rattle.command_line.specs.CommandLine.{said_of, said_of_text, is_needed, is_file, is_written}
 use Rattle.command_line.specs.CommandLine.{written_number, files_found, files_said, are_apart, FileName}
 use Rattle.command_line.specs.CommandLine.{AreSaid, KeepsLimits, IsWithin, name_said, name_of, said, lines_named}
 use Rattle.command_line.specs.CommandLine.{commands, Says, IsScheduled, IsSound, NoPlanFits, may_stand, AreFit, HasAll}
-use Rattle.std.proofs.Common.{get_or}
 use Rattle.std.proofs.lemmas.Nat.{mul-le}
-use Rattle.std.proofs.lemmas.Str.Parse.{without_leading_plus_none}
-use Rattle.std.specs.Str.Parse.{ParsesUnsigned}
 use borrow.Author.Tests.{ltb-true, lt-ltb, leb-true}
 
 pub if_err : {T E : Type 0} (r : Result T E) (P : Type 0) → P → IfErr r (λ _. P)
@@ -43,63 +39,36 @@ not_true false never = refl
 
 -- ---- numbers
 
-abbrev are_digits : ℕ → Text → Bool
-are_digits radix = list_all (λ digit. nat_lt (digit_value digit) radix)
+-- more digits write no less
+grows : (radix number : ℕ) (digits : Text) → 1 ≤ radix → number ≤ digits_value_after radix number digits
+grows radix number [] some = omega arith
+grows radix number (d ∷ ds) some =
+    omega (
+      arith,
+      mul-le number 1 number radix (omega arith) some,
+      grows radix (number * radix + digit_value d) ds some,
+    )
 
-digits-true : (radix : ℕ) (digits : Text) → AllDigits radix digits → are_digits radix digits ≡ true
-digits-true radix [] all = refl
-digits-true radix (d ∷ ds) all =
-    ap (λ b. b && are_digits radix ds) (lt-ltb (digit_value d) radix all.0) ∙ digits-true radix ds all.1
+-- a digit more
+one_digit : (radix number d : ℕ) (digits : Text) → digit_value d < radix
+    → number_after radix number (d ∷ digits) ≡ number_after radix (number * radix + digit_value d) digits
+one_digit radix number d digits less = rw (lt-ltb (digit_value d) radix less) refl
 
-true-digits : (radix : ℕ) (digits : Text) → are_digits radix digits ≡ true → AllDigits radix digits
-true-digits radix [] e = tt
-true-digits radix (d ∷ ds) e =
-    let each = both (nat_lt (digit_value d) radix) (are_digits radix ds) e in
-    (ltb-true (digit_value d) radix each.0, true-digits radix ds each.1)
-
--- std's numerals are those of the definition
-pub number_in-ok : {E : Type 0} (radix : ℕ) (digits : Text) (r : Result ℕ E)
-    → OkIff r (IsNumeral radix digits × (digits_value radix digits < 2 ^ 64)) (digits_value radix digits)
-    → result_ok r ≡ number_in radix digits
-unfolding number_in
-number_in-ok radix digits (Ok n) is =
-    let test : (is_numeral radix digits && nat_lt (digits_value radix digits) (2 ^ 64)) ≡ true =
-    ap (λ b. (b && are_digits radix digits) && nat_lt (digits_value radix digits) (2 ^ 64)) (lt-ltb 0 (length digits) is.0.0.0)
-    ∙ ap (λ b. b && nat_lt (digits_value radix digits) (2 ^ 64)) (digits-true radix digits is.0.0.1)
-    ∙ lt-ltb (digits_value radix digits) (2 ^ 64) is.0.1 in
-    ap Some is.1 ∙ sym (ap (λ b. if b then Some (digits_value radix digits) else None) test)
-number_in-ok radix digits (Err e) is =
-    let test : (is_numeral radix digits && nat_lt (digits_value radix digits) (2 ^ 64)) ≡ false =
+too_large : (radix number : ℕ) (digits : Text) → 1 ≤ radix → 2 ^ 64 ≤ number → number_after radix number digits ≡ None
+too_large radix number digits some large =
+    let more = grows radix number digits some in
+    let test : (are_numerals radix digits && nat_lt (digits_value_after radix number digits) (2 ^ 64)) ≡ false =
     not_true _ (λ t.
-    let parts = both (is_numeral radix digits) (nat_lt (digits_value radix digits) (2 ^ 64)) t in
-    let numeral = both (nat_lt 0 (length digits)) (are_digits radix digits) parts.0 in
-    is (
-      (ltb-true 0 (length digits) numeral.0, true-digits radix digits numeral.1),
-      ltb-true (digits_value radix digits) (2 ^ 64) parts.1,
-    )) in
-    sym (ap (λ b. if b then Some (digits_value radix digits) else None) test)
+    let parts = both (are_numerals radix digits) (nat_lt (digits_value_after radix number digits) (2 ^ 64)) t in
+    let less = ltb-true (digits_value_after radix number digits) (2 ^ 64) parts.1 in
+    absurd (omega (arith, more, large, less))) in
+    ap (λ b. if b then Some (digits_value_after radix number digits) else None) test
 
--- a plus is no digit
-pub plus_first : (radix : ℕ) (digits : Text) → radix ≤ 36 → get_or digits 0 0 ≡ 43 → number_in radix digits ≡ None
-unfolding number_in
-plus_first radix [] most plus = refl
-plus_first radix (d ∷ ds) most plus =
-    let test : (is_numeral radix (d ∷ ds) && nat_lt (digits_value radix (d ∷ ds)) (2 ^ 64)) ≡ false =
-    not_true _ (λ t.
-    let parts = both (is_numeral radix (d ∷ ds)) (nat_lt (digits_value radix (d ∷ ds)) (2 ^ 64)) t in
-    let numeral = both (nat_lt 0 (length (d ∷ ds))) (are_digits radix (d ∷ ds)) parts.0 in
-    let each = both (nat_lt (digit_value d) radix) (are_digits radix ds) numeral.1 in
-    let less : digit_value d < radix = ltb-true (digit_value d) radix each.0 in
-    let more : 36 < radix = subst (λ x. digit_value x < radix) plus less in
-    absurd (omega arith)) in
-    ap (λ b. if b then Some (digits_value radix (d ∷ ds)) else None) test
-
-pub unsigned_ok : {E : Type 0} (radix : ℕ) (digits : Text) (r : Result ℕ E) → (get_or digits 0 0 ≡ 43 → ⊥)
-    → ParsesUnsigned 64 radix digits r → result_ok r ≡ number_in radix digits
-unsigned_ok radix digits r plain is =
-    number_in-ok radix digits r
-    (subst (λ ds. OkIff r (IsNumeral radix ds × (digits_value radix ds < 2 ^ 64)) (digits_value radix ds))
-    (without_leading_plus_none digits plain) is)
+-- a digit after which the number is too large
+pub past_most : (radix number d : ℕ) (digits : Text) → 1 ≤ radix → digit_value d < radix → 2 ^ 64 ≤ number * radix + digit_value d
+    → number_after radix number (d ∷ digits) ≡ None
+past_most radix number d digits some less large =
+    one_digit radix number d digits less ∙ too_large radix (number * radix + digit_value d) digits some large
 
 -- ---- arguments
 

@@ -5,7 +5,7 @@ use Rattle.std.specs.Prelude.{IsSome, IsSomeAnd, IfSome, nat_lt, nat_le}
 use Rattle.std.specs.List.{AllByRecursion, AllZip, list_all, starts_with}
 use Rattle.std.specs.Borrow.{Bor}
 use Rattle.std.specs.Char.{digit_value}
-use Rattle.std.specs.Str.Parse.{digits_value, without_leading_plus}
+use Rattle.std.specs.Str.Parse.{digits_value_after, without_leading_plus}
 use Rattle.clap.specs.Words.{App, Row, Rule, Text, fault_of, first_of, new_app, new_rule, subcommand_of, with_rule, with_subcommand}
 use Rattle.clap.specs.declared.builder.action.ArgAction.TheVariants.{SetTrue}
 use Rattle.command_line.specs.declared.plans.Plan.{Plan}
@@ -120,14 +120,32 @@ pub data Said : Type 0 where
   Used : Bool → Said
   Explained : Option Why → Said
 
--- one digit of the radix or more, and nothing else
-abbrev pub is_numeral : ℕ → Text → Bool
-is_numeral radix digits = nat_lt 0 (length digits) && list_all (λ digit. nat_lt (digit_value digit) radix) digits
+-- what is left of digits without each `_`
+abbrev pub ungrouped : Text → Text
+ungrouped [] = []
+ungrouped (b ∷ bs) = if b == 95 then ungrouped bs else b ∷ ungrouped bs
 
--- the number below 2 ^ 64 that digits write
+-- each `_` stands between two digits, of which there is one at least
+abbrev pub is_grouped_after : Bool → Text → Bool
+is_grouped_after digit [] = digit
+is_grouped_after digit (b ∷ bs) = if b == 95 then digit && is_grouped_after false bs else is_grouped_after true bs
+
+abbrev pub is_grouped : Text → Bool
+is_grouped digits = is_grouped_after false digits
+
+-- digits of the radix, and nothing else
+abbrev pub are_numerals : ℕ → Text → Bool
+are_numerals radix digits = list_all (λ digit. nat_lt (digit_value digit) radix) digits
+
+-- the number below 2 ^ 64 that digits write, after those of a number
+abbrev pub number_after : ℕ → ℕ → Text → Option ℕ
+number_after radix number digits =
+    if are_numerals radix digits && nat_lt (digits_value_after radix number digits) (2 ^ 64)
+    then Some (digits_value_after radix number digits) else None
+
+-- the number below 2 ^ 64 that digits write, with `_` between them or not
 unfoldable pub number_in : ℕ → Text → Option ℕ
-number_in radix digits =
-    if is_numeral radix digits && nat_lt (digits_value radix digits) (2 ^ 64) then Some (digits_value radix digits) else None
+number_in radix digits = if is_grouped digits then number_after radix 0 (ungrouped digits) else None
 
 -- hexadecimal digits after `0x`, or else decimal digits; a sign is neither
 abbrev pub is_hexadecimal : Text → Bool

@@ -1,10 +1,7 @@
 //! Why what clap found is no plan, and what is said of it.
 
-ghost use Rattle.std.specs.Prelude.{◌≤◌};
-
-use crate::numbers::count_in;
+use crate::numbers::{are_numerals, count_in, is_grouped, without_plus};
 use std::alloc::{AllocError, Global};
-use std::num::IntErrorKind;
 
 /// Why what clap found is no plan.
 #[derive(Clone, Copy)]
@@ -29,27 +26,23 @@ pub(crate) enum Misfit<'a> {
 /// What is said where an argument that must be there isn't.
 pub(crate) const MISSING: &str = "an argument is missing, or its value is out of range";
 
-/// Why digits are no number, in clap's words.
-fn fault_of_digits(digits: &str, radix: u32) -> &'static str
-    requires least { 2 ≤ radix }
-    requires most { radix ≤ 36 }
-{
-    match u64::from_str_radix(digits, radix) {
-        Ok(_) => "invalid digit found in string",
-        Err(error) => match error.kind() {
-            IntErrorKind::Empty => "cannot parse integer from empty string",
-            IntErrorKind::PosOverflow => "number too large to fit in target type",
-            _ => "invalid digit found in string",
-        },
+/// Why digits are no number below 2^64, in clap's words.
+fn fault_of_digits(digits: &[u8], radix: u8) -> &'static str {
+    if is_grouped(digits) && are_numerals(digits, radix) {
+        "number too large to fit in target type"
+    } else {
+        "invalid digit found in string"
     }
 }
 
-/// Why a text is no number, in clap's words.
+/// Why a text is no number below 2^64, in clap's words.
 fn fault_of_number(text: &str) -> &'static str {
+    if text.is_empty() {
+        return "cannot parse integer from empty string";
+    }
     match text.strip_prefix("0x") {
-        Some("") => fault_of_digits(text, 10),
-        Some(digits) => fault_of_digits(digits, 16),
-        None => fault_of_digits(text, 10),
+        Some(digits) => fault_of_digits(digits.as_bytes(), 16),
+        None => fault_of_digits(without_plus(text.as_bytes()), 10),
     }
 }
 

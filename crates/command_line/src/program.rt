@@ -40,7 +40,8 @@ Without a command the program runs a first image of five instructions, which pri
 
 In place of an image `run`, `audit`, `prove`, `dis` and `debug` take a text too, if its name ends in
 .s: then its labels are known without --symbols. Of the files that are read - is standard input, for
-one of them alone, and not for `debug`. Numbers are decimal, or hexadecimal behind 0x.
+one of them alone, and not for `debug`. Numbers are decimal, or hexadecimal behind 0x,
+and _ may stand between two digits.
 
 The status is 0 where all went well, for a run where the machine halted with 0; 1 where a run ended
 otherwise, where `audit` finds that a policy is broken, and where `prove` doesn't show that it is

@@ -552,8 +552,8 @@ fn asks_all(words: &[&str]) -> bool
 ///
 /// A file that is written may not bear the name of another file of the command; `--trace-from` and `--trace-last` go with `--trace`,
 /// and `--policy` does not go with `--why`; with one number `bounds` has a length and no address. `-` is standard input, which is read
-/// for one file at most, and for none of `debug`. A number is typed in decimal digits, or in hexadecimal digits after `0x`. `Help` and
-/// `Refused` hold the text for whoever typed the words; `Memory` says that there was none.
+/// for one file at most, and for none of `debug`. A number is typed in decimal digits, or in hexadecimal digits after `0x`, and `_` may
+/// stand between two digits. `Help` and `Refused` hold the text for whoever typed the words; `Memory` says that there was none.
 pub fn plan<'a>(alloc: Global, words: &'a [&'a str]) -> Result<Plan<'a>, PlanFault>
     ensures taken { OnOk result (IsTaken (map (λ word. word.now) words.entry.now)) }
     ensures ok { IfOk result (IsPlanOf (found_in (map (λ word. word.now) words.entry.now))) }

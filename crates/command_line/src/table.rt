@@ -35,11 +35,11 @@ pub(crate) enum Takes {
     ReadBeside,
     /// The name of a file that is written.
     Written,
-    /// A number from the first to the second, in decimal digits or after `0x` in hexadecimal ones.
+    /// A number from the first to the second, in decimal digits or after `0x` in hexadecimal ones, with `_` between digits or not.
     Count(u64, u64),
     /// The same, and the first where the argument isn't used.
     Start(u64, u64),
-    /// A number of 64 bits, in decimal digits or after `0x` in hexadecimal ones.
+    /// A number of 64 bits, typed the same way.
     Number,
 }
 

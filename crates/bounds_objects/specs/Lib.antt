@@ -1,0 +1,4 @@
+-- What to read
+pub mod Bounds
+pub mod Length
+pub mod Word
