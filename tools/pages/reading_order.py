@@ -65,8 +65,7 @@ REST = [
      "hints/specs/Printable, Files"),
     ("shown texts, read again", "texts/specs/Hex, Piece; disassembler/specs/Shown; text_laws/specs/ReadBack, TextBack"),
     ("bounds, lengths and words, as texts",
-     "cap_bounds/specs/WindowEnds; bounds_text/specs/Picture, BoundsText, Letters, LengthText, WordText; "
-     "objects/specs/Items, Places; bounds_objects/specs/Bounds, Length, Word"),
+     "cap_bounds/specs/WindowEnds; bounds_text/specs/Picture, BoundsText, Letters, LengthText, WordText"),
     ("what a step comes to, as text",
      "asm_names/specs/TrapNames; explain/specs/TrapText, ValueText, EffectText, TraceLine, WordLine, StandingText"),
     ("what the next step asks, and why", "explain/specs/Asked, WhyText"),

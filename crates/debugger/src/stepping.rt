@@ -95,7 +95,8 @@ fn is_before_unfetched<C: CapRep>(machine: &Machine<C>, stops: &[Stop]) -> bool
         return false;
     }
     let planned = machine.next();
-    stops_before(machine, &planned, StopAt::Unfetched, false) && !is_any_stop(machine, stops, &planned)
+    stops_before(machine, &planned, StopAt::Unfetched, false)
+        && !is_any_stop(machine, stops, &planned)
 }
 
 /// What a command says after its events, beside the line that tells of them.

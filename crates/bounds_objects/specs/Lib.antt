@@ -1,4 +1,0 @@
--- What to read
-pub mod Bounds
-pub mod Length
-pub mod Word
