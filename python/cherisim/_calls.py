@@ -87,7 +87,7 @@ CONSTANTS: Dict[str, int] = {"OK": 0, "LABELS": 57, "NO_MEMORY": 64, "NO_MACHINE
                              "IN_MEMORY": 2, "MAY_STORE": 0, "MAY_LOAD": 1, "MAY_EXECUTE": 2, "MAY_LEARN": 3, "MAY_KEEP": 4,
                              "MAY_SEND": 5, "MAY_HALT": 6, "MAY_SYSTEM": 7, "MAY_TIMER": 8, "MAY_HOLD": 9, "RULE_STORE": 0,
                              "RULE_LOAD": 1, "RULE_EXECUTE": 2, "RULE_TRANSMIT": 3, "RULE_HALT": 4, "RULE_TIMER": 5, "RULE_SYSTEM": 6,
-                             "RULE_SEAL": 7, "RULE_TYPES": 8, "RULE_KEEP": 9}
+                             "RULE_SEAL": 7, "RULE_TYPES": 8, "RULE_KEEP": 9, "RULE_ENTER": 10}
 CALLS: Dict[str, Tuple[Any, ...]] = {  # what each answers, and what it is given
     "cheri_cap": (Cap, Word, c_bool),
     "cheri_is_well_formed": (c_bool, Word),

@@ -24,7 +24,7 @@ PLANS = [
     ("run hello.img 0x16 --gap 0x3E8 --tick=0x0064", "run hello.img 22 1000 100 -"),
     ("run hello.img 0x5f5e100 --times 0x1", "run hello.img 100000000 1000 100 -"),
     ("run hello.img +22 --gap +7", "run hello.img 22 7 100 -"),
-    ("run hello.img 1_000 --gap 1_00_0 --tick=+1_0 --times 0x0_1", "run hello.img 1000 1000 10 -"),
+    ("run hello.img 1_000 --gap 9_9_9 --tick=+1_0 --times 0x0_1", "run hello.img 1000 999 10 -"),
     ("run hello.img 0x1_0000 --gap 0xa", "run hello.img 65536 10 100 -"),
     ("run hello.img 22 --input keys --gap 1", "run hello.img 22 1 100 keys"),
     ("run --gap=1000000 --tick=1000000 hello.img 22", "run hello.img 22 1000000 1000000 -"),
