@@ -208,9 +208,9 @@ def doubled():
     """Runs that end before a trap while another is open, by the model; the lines of a trace say how far they came."""
     def runs(words, most, *counts):
         done = before_second(machine_of(words), most)
-        for steps in sorted({*counts, done, min(done + 1, most), most}):
+        for steps in sorted({*counts, done, done + 1, most}):
             yield case(f"run trap.img {steps} --why=double --quiet --trace t", [file_of("trap.img", words)], 1, "open trap.img, make t", b"",
-                       "cherisim: not halted\n", traced(words, min(steps, done)).encode())
+                       "cherisim: not halted\n", traced(words, before_second(machine_of(words), steps)).encode())
 
     yield "# before a trap in a handler: after twenty steps of it, at its first, at an entry that can't be fetched, and of an interrupt"
     yield from runs(HANDLER_TRAPS, 60, 7)
