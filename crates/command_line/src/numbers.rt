@@ -1,6 +1,6 @@
 //! The numbers that are typed as words.
 
-ghost use Rattle.std.specs.Prelude.{◌≡◌, ◌≤◌, ◌<◌, ◌^◌};
+ghost use Rattle.std.specs.Prelude.{◌≡◌, ◌≤◌, ◌<◌, ◌+◌, ◌*◌, ◌^◌, IfNone, IfSome};
 ghost use Rattle.std.specs.Char.{digit_value};
 ghost use Rattle.command_line.specs.CommandLine.{are_numerals, count_in, is_grouped, is_grouped_after, number_after, number_in, ungrouped};
 ghost use Rattle.command_line.specs.CommandLine.{written_number};
@@ -48,6 +48,19 @@ pub(crate) fn are_numerals(digits: &[u8], radix: u8) -> bool
     }
 }
 
+/// A number with one more digit, if that is below 2^64.
+fn with_digit(number: u64, digit: u8, radix: u8) -> Option<u64>
+    ensures some { IfSome result (λ next. next ≡ number * radix + digit) }
+    ensures none { IfNone result (2 ^ 64 ≤ number * radix + digit) }
+{
+    let next = u128::from(number) * u128::from(radix) + u128::from(digit);
+    if next >> 64 == 0 {
+        Some(next as u64)
+    } else {
+        None
+    }
+}
+
 /// The number below 2^64 that digits write which follow those of another.
 #[tactic(auto, using(crate::proofs::Found::past_most))]
 fn number_after(number: u64, digits: &[u8], radix: u8) -> Option<u64>
@@ -62,11 +75,9 @@ fn number_after(number: u64, digits: &[u8], radix: u8) -> Option<u64>
             if digit >= radix {
                 return None;
             }
-            let next = u128::from(number) * u128::from(radix) + u128::from(digit);
-            if next >> 64 == 0 {
-                number_after(next as u64, rest, radix)
-            } else {
-                None
+            match with_digit(number, digit, radix) {
+                Some(next) => number_after(next, rest, radix),
+                None => None,
             }
         }
     }

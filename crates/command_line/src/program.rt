@@ -3,6 +3,7 @@
 ghost use Rattle.std.specs.Prelude.{◌≡◌, IfOk, false, map, option_map};
 ghost use Rattle.clap.specs.Words.{app_of, rule_of, with_rule, with_subcommand};
 ghost use Rattle.clap.specs.declared.builder.command.Command.TheViews.{out-Command};
+ghost use Rattle.command_line.specs.declared.table.Stands.TheVariants.{Flag, Named};
 ghost use Rattle.command_line.specs.CommandLine.{as_stands, by_default, line_of, entry_of};
 ghost use Rattle.command_line.specs.CommandLine.{rule, with_arguments, command, with_commands, program};
 
@@ -47,6 +48,22 @@ The status is 0 where all went well, for a run where the machine halted with 0; 
 otherwise, where `audit` finds that a policy is broken, and where `prove` doesn't show that it is
 kept; 2 for a command line that is no command; 3 for any other fault.";
 
+/// Puts an argument behind `--ID`, with a value.
+fn named<'a>(id: &'a str, value: &'a str, arg: Arg<'a>) -> Arg<'a>
+    ensures rule { rule_of result ≡ as_stands false Named id.entry.now (rule_of arg.entry) }
+    ensures local { result.global ≡ arg.entry.global }
+{
+    arg.long(id).value_name(value)
+}
+
+/// Puts an argument behind `--ID`, without a value.
+fn flag<'a>(id: &'a str, arg: Arg<'a>) -> Arg<'a>
+    ensures rule { rule_of result ≡ as_stands false Flag id.entry.now (rule_of arg.entry) }
+    ensures local { result.global ≡ arg.entry.global }
+{
+    arg.long(id).action(ArgAction::SetTrue)
+}
+
 /// Puts an argument where it stands among the words; `all` says that the words have `--why=all` or `--why=double`.
 fn as_stands<'a>(all: bool, stands: Stands, id: &'a str, value: &'a str, arg: Arg<'a>) -> Arg<'a>
     ensures rule { rule_of result ≡ as_stands all stands id.entry.now (rule_of arg.entry) }
@@ -55,11 +72,11 @@ fn as_stands<'a>(all: bool, stands: Stands, id: &'a str, value: &'a str, arg: Ar
     match stands {
         Stands::Operand => arg.required(true),
         Stands::Optional => arg,
-        Stands::Named => arg.long(id).value_name(value),
-        Stands::Required => arg.required(true).long(id).value_name(value),
-        Stands::Flag => arg.long(id).action(ArgAction::SetTrue),
-        Stands::FlagOrAll if all => arg.long(id).value_name(value),
-        Stands::FlagOrAll => arg.long(id).action(ArgAction::SetTrue),
+        Stands::Named => named(id, value, arg),
+        Stands::Required => named(id, value, arg.required(true)),
+        Stands::Flag => flag(id, arg),
+        Stands::FlagOrAll if all => named(id, value, arg),
+        Stands::FlagOrAll => flag(id, arg),
     }
 }
 

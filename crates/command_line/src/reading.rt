@@ -1,6 +1,6 @@
 //! The plan that a command line asks for.
 
-ghost use Rattle.std.specs.Prelude.{◌≡◌, List, [], IsTrue, Option, IfOk, IfErr, OnOk, Some, map, option_map, codes, if◌then◌else◌, None};
+ghost use Rattle.std.specs.Prelude.{◌≡◌, List, [], IsTrue, bytes_eq, Option, IfOk, IfErr, OnOk, Some, map, option_map, codes, if◌then◌else◌, None};
 ghost use Rattle.std.specs.List.{list_all};
 ghost use Rattle.clap.specs.Words.{first_of, found_of, rows_of, kind_of, subcommand_rows_of};
 ghost use Rattle.clap.specs.declared.error.kind.ErrorKind.{ErrorKind};
@@ -415,7 +415,7 @@ fn lines_named(name: &str, rows: &[CommandRow]) -> Option<&'static [Argument]>
     match rows {
         [] => None,
         [row, rest @ ..] => {
-            if name == row.0 {
+            if is_word(name, row.0) {
                 Some(row.2)
             } else {
                 lines_named(name, rest)
@@ -526,11 +526,18 @@ fn fault_of(alloc: Global, words: &[&str], error: Error) -> PlanFault
     }
 }
 
+/// Whether a word is this one.
+fn is_word(word: &str, this: &str) -> bool
+    ensures { result ≡ bytes_eq word.now this.now }
+{
+    word == this
+}
+
 /// Whether a word is `--why=all` or `--why=double`.
 fn names_ends(word: &str) -> bool
     ensures { result ≡ names_ends word.now }
 {
-    word == "--why=all" || word == "--why=double"
+    is_word(word, "--why=all") || is_word(word, "--why=double")
 }
 
 /// Whether one of the words is one of these, before any `--`.
