@@ -83,7 +83,8 @@ fn flat(
     pages: u32,
     mode: bool,
 ) -> Result<Image, ImageFault>
-    ensures { Builds (flat_fault 2 pages entry (mode_number mode) address bytes.now) (flat_image 2 pages entry (mode_number mode) address bytes.now) result }
+    ensures { Builds (flat_fault 2 pages entry (mode_number mode) address bytes.now)
+        (flat_image 2 pages entry (mode_number mode) address bytes.now) result }
 {
     Image::build_v2(
         alloc,

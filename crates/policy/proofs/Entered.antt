@@ -17,7 +17,7 @@ use Rattle.cap_rights.specs.DerivationLaws.{IsWithin-with_type}
 use Rattle.cap_rights.specs.DerivedLaws.{derived-self, derived-at_address}
 use Rattle.cap_rights.specs.Opened.{opened}
 use Rattle.cap_rights.specs.RightsLaws.{permits-outer, unsealed-outer}
-use Rattle.cap_rights.specs.Within.{IsWithin, IsWithinIfTagged}
+use Rattle.cap_rights.specs.Within.{IsWithinIfTagged}
 use Rattle.registers.specs.Registers.{register}
 use Rattle.special_regs.specs.Traps.{aligned, is_sentry, sentry_opened, target}
 use Rattle.steps.specs.declared.effect.Effect.{Effect}

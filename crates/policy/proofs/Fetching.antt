@@ -13,23 +13,18 @@ use Rattle.devices.specs.Devices.{interrupts_of}
 use Rattle.special_regs.specs.Interrupts.{pending}
 use Rattle.special_regs.specs.declared.interrupts.Interrupt.{Interrupt}
 use Rattle.steps.specs.AskedLaws.{fetch-fetched}
-use Rattle.steps.specs.declared.event.Event.{Event}
-use Rattle.steps.specs.Event.{after}
-use Rattle.steps.specs.IsState.{IsState}
 use Rattle.steps.specs.Outcome.{Plain, outcome_of, step_outcome_unless, step_outcome}
 use Rattle.steps.specs.RowEffects.{fetched}
 use Rattle.steps.specs.State.{State, pc_of}
 use Rattle.steps.specs.Step.{fetch, fetched_effect, decided, step_effect}
 use Rattle.authority.specs.Reachable.{IsReachable, from_root, in_pcc}
 use Rattle.authority.specs.RowLaws.{IsFetched, fetched-pcc}
-use Rattle.authority.specs.StepLaws.{event-grows_not}
 use Rattle.reach.specs.Ranges.{IsInOne}
 use Rattle.policy.specs.Terms.{Terms}
 use Rattle.policy.specs.declared.rule.Ban.TheVariants as ban
 use Rattle.policy.specs.Rule.{Breaks}
-use Rattle.policy.specs.Watch.{Applies, IsAbout, Holds, RunsBy, fetched_at, fetched_from}
+use Rattle.policy.specs.Watch.{Applies, IsAbout, Holds, fetched_at, fetched_from}
 use Rattle.policy.proofs.Covers.{in_or_out}
-use Rattle.policy.proofs.Rights.{keeps-execute}
 
 -- PCC passes the checks of the fetch, and the instruction lies in RAM
 abbrev pub IsFetchedInRam : State → Type 0

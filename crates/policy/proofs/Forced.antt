@@ -1,5 +1,5 @@
 -- What is in force.
-use Rattle.std.proofs.Common.{◌≡◌, ℕ, zero, suc, ◌<◌, Bool, true, false, Option, None, Some, List, [], ◌∷◌, ◌++◌, length, get_or}
+use Rattle.std.proofs.Common.{◌≡◌, ℕ, zero, suc, ◌<◌, ◌≤◌, Bool, true, false, Option, None, Some, List, [], ◌∷◌, ◌++◌, length, get_or}
 use Rattle.std.proofs.Common.{refl, sym, ap, ap₂, ◌∙◌, subst, arith, cond}
 use Rattle.std.proofs.lemmas.Bool.{true≢false}
 use Rattle.std.specs.List.{list_any}
@@ -52,6 +52,11 @@ module _ (vs : List CapValue) (pc : ℕ) (door : Option ℕ) where
   each-length [] nows same = refl
   each-length (t ∷ ts) [] same = absurd (omega (arith, same))
   each-length (t ∷ ts) (n ∷ ns) same = ap suc (each-length ts ns (omega (arith, same)))
+
+-- who is found of some is one of them
+pub any-some : {A : Type 0} (p : A → Bool) (xs : List A) → list_any p xs ≡ true → 1 ≤ length xs
+any-some p [] found = absurd (true≢false (sym found))
+any-some p (x ∷ xs) found = omega arith
 
 -- no jump through a seal
 pub no-door : (pc : ℕ) (saids : List Terms) → list_any (λ rule. rule.or_caller && is_call rule pc None) saids ≡ false

@@ -194,7 +194,8 @@ fn copy(alloc: Global, rule: &Rule) -> Result<Rule, AllocError>
 
 /// Rules once more.
 fn copies(alloc: Global, rules: &[Rule]) -> Result<Vec<Rule>, AllocError>
-    ensures { IfOk result (λ copies. terms_of copies.items ≡ terms_of rules.now) }
+    ensures copies { IfOk result (λ copies. terms_of copies.items ≡ terms_of rules.now) }
+    ensures room { OnErr result (1 ≤ length rules.now) }
 {
     let mut copies = Vec::new(alloc);
     for rule in rules {
@@ -256,6 +257,7 @@ fn step_after<C: CapRep>(
         ≡ in_force_after (terms_of said.now) (terms_of now.now) Step machine.now)) }
     ensures none { IfOk result (λ r. IfNone r (in_force_after (terms_of said.now) (terms_of now.now) Step machine.now
         ≡ terms_of now.now)) }
+    ensures room { OnErr result (1 ≤ length said.now) }
 {
     if !lends_some(said) {
         return Ok(None);
@@ -281,11 +283,12 @@ pub struct InForce<'r> {
 }
 
 impl<'r> InForce<'r> {
-    /// Rules that nobody has called the code of. `AllocError` is out of memory.
+    /// Rules that nobody has called the code of. `AllocError` is out of memory, which comes only where there are rules.
     pub fn new(alloc: Global, said: &'r [Rule]) -> Result<Self, AllocError>
         ensures said { IfOk result (λ force. said_by force ≡ terms_of said.now) }
         ensures rules { IfOk result (λ force. forced_by force ≡ terms_of said.now) }
         ensures paired { IfOk result IsPaired }
+        ensures room { OnErr result (1 ≤ length said.now) }
     {
         let rules = copies(alloc, said)?;
         Ok(InForce { said, rules })
@@ -299,7 +302,7 @@ impl<'r> InForce<'r> {
     }
 
     /// Takes what is in force after an event, which the machine meets next, and says whether it may be other than before. `AllocError`:
-    /// there is no memory for what is reachable; then nothing is changed.
+    /// there is no memory for what is reachable, which is asked only where there are rules; then nothing is changed.
     pub fn pass<C: CapRep>(
         &mut self,
         alloc: Global,
@@ -312,6 +315,7 @@ impl<'r> InForce<'r> {
         ensures same { OnErr result (forced_by self.new ≡ forced_by self.old) }
         ensures said { said_by self.new ≡ said_by self.old }
         ensures paired { IsPaired self.new }
+        ensures room { OnErr result (1 ≤ length (said_by self.old)) }
     {
         if !matches!(event, Event::Step) {
             return Ok(false);

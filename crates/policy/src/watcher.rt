@@ -1,6 +1,6 @@
 //! Watchers: they tell which rule that applies refuses the next event, and remember what saves a search.
 ghost use Rattle.std.specs.Prelude.{◌≡◌, ◌&&◌, not, if◌then◌else◌, ℕ, ◌<◌, ◌≤◌, ◌⊎◌, None, [], replicate, length, Contains};
-ghost use Rattle.std.specs.Prelude.{IfNone, IfOk, IfSome, IsTrue, OnOk, OnErr};
+ghost use Rattle.std.specs.Prelude.{IfNone, IfOk, IfSome, IsFalse, IsTrue, OnOk, OnErr};
 ghost use Rattle.steps.specs.declared.event.Event.TheVariants.{Step};
 ghost use Rattle.steps.specs.Event.{after, sent};
 ghost use Rattle.steps.specs.IsState.{IsState};
@@ -52,6 +52,7 @@ fn each_is_certain<C: CapRep>(
     requires count { length certified.old ≡ length rules.now }
     requires certified { AreCertified (terms_of rules.now) certified.old hart.now.memory }
     ensures certified { AreCertified (terms_of rules.now) certified.new hart.now.memory }
+    ensures some { IsFalse result → 1 ≤ length rules.now }
     ensures holds { IsTrue result → (rule : Terms) → Contains (terms_of rules.now) rule → Applies rule at
         → Applied known rule ⊎ Holds rule hart.now }
 {
@@ -75,14 +76,17 @@ fn known_at(at: Option<u64>, plain: bool, changed: bool) -> Option<u64>
 }
 
 impl<'r> Watcher<'r> {
-    /// A watcher by some rules that knows nothing yet, so that what it holds is true of every state. `AllocError` is out of memory.
+    /// A watcher by some rules that knows nothing yet, so that what it holds is true of every state. `AllocError` is out of memory, which
+    /// comes only where there are rules.
     pub fn new(alloc: Global, rules: &'r [Rule]) -> Result<Self, AllocError>
         ensures said { IfOk result (λ w. said_to w ≡ terms_of rules.now) }
         ensures rules { IfOk result (λ w. rules_of w ≡ terms_of rules.now) }
         ensures knows { IfOk result (λ w. (s : State) → Knows w s) }
+        ensures room { OnErr result (1 ≤ length rules.now) }
     {
         let force = InForce::new(alloc, rules)?;
-        let certified = vec![in alloc; false; rules.len()]?;
+        let mut certified = Vec::new(alloc);
+        certified.resize(rules.len(), false)?;
         Ok(Watcher {
             force,
             known: None,
@@ -91,7 +95,8 @@ impl<'r> Watcher<'r> {
     }
 
     /// Which rule refuses the next event, with the first reachable capability that breaks it and the part of the rule that it breaks;
-    /// `None` where each rule that applies holds. `AllocError`: there is no memory for a search of what is reachable.
+    /// `None` where each rule that applies holds. `AllocError`: there is no memory for a search of what is reachable, which is made only
+    /// where there are rules.
     pub fn refusal<C: CapRep>(
         &mut self,
         alloc: Global,
@@ -103,6 +108,7 @@ impl<'r> Watcher<'r> {
         ensures rules { rules_of self.new ≡ rules_of self.old }
         ensures said { said_to self.new ≡ said_to self.old }
         ensures knows { Knows self.new machine.now }
+        ensures room { OnErr result (1 ≤ length (said_to self.old)) }
     {
         let hart = machine.hart();
         let at = fetched_at(hart);
@@ -115,7 +121,7 @@ impl<'r> Watcher<'r> {
     }
 
     /// Meets an event, before which each rule that applies holds, and answers the byte that is sent. `AllocError`: there is no memory
-    /// for what the caller of a rule's code can reach; then nothing is changed.
+    /// for what the caller of a rule's code can reach, which is asked only where there are rules; then nothing is changed.
     pub fn meet<C: CapRep>(
         &mut self,
         alloc: Global,
@@ -128,6 +134,7 @@ impl<'r> Watcher<'r> {
         ensures byte { IfOk result (λ byte. byte ≡ sent event machine.old) }
         ensures rules { OnOk result (rules_of self.new ≡ in_force_after (said_to self.old) (rules_of self.old) event machine.old) }
         ensures same { OnErr result (machine.new ≡ machine.old) }
+        ensures room { OnErr result (1 ≤ length (said_to self.old)) }
         ensures said { said_to self.new ≡ said_to self.old }
         ensures knows { OnOk result (Knows self.new machine.new) }
         ensures was_state { IsState machine.old }

@@ -1,6 +1,6 @@
 //! Steps with the byte before the first of them and the tick after the last.
 
-ghost use Rattle.std.specs.Prelude.{◌≡◌, false, [], ◌∷◌, map, option_to_list, if◌then◌else◌, IfNone, IfOk, IfSome, OnErr};
+ghost use Rattle.std.specs.Prelude.{◌≡◌, ◌≤◌, false, [], ◌∷◌, length, map, option_to_list, if◌then◌else◌, IfNone, IfOk, IfSome, OnErr};
 ghost use Rattle.steps.specs.declared.event.Event.TheVariants.{Tick, Byte};
 ghost use Rattle.machine.specs.Run.{run_after};
 ghost use Rattle.policy.specs.Known.{Knows, rules_of, said_to};
@@ -55,6 +55,7 @@ pub(crate) fn keep_block<C: CapRep>(
     ensures said { said_to watcher.new ≡ said_to watcher.old }
     ensures midway { OnErr result (StandsMidway (said_to watcher.old) (rules_of watcher.old) (map Byte (option_to_list byte)) count
         machine.old machine.new) }
+    ensures room { OnErr result (1 ≤ length (said_to watcher.old)) }
 {
     bring(watcher, machine, byte);
     if let Some(breach) = keep_steps(alloc, watcher, machine, count)? {

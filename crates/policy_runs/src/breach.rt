@@ -1,6 +1,6 @@
 //! The first breach of rules in a run on a schedule.
 
-ghost use Rattle.std.specs.Prelude.{◌≡◌, Some, false, IfNone, IfOk, IfSome, OnErr};
+ghost use Rattle.std.specs.Prelude.{◌≡◌, ◌≤◌, Some, false, length, IfNone, IfOk, IfSome, OnErr};
 ghost use Rattle.machine.specs.Run.{run_after};
 ghost use Rattle.policy.specs.Terms.{terms_of};
 ghost use Rattle.policy.specs.Watch.{IsRefused};
@@ -34,8 +34,9 @@ pub struct Breach {
 ///
 /// # Errors
 ///
-/// Out of memory for what is known of the rules, before the run, or to find out what is reachable, before a step of it. How much that takes
-/// is the allocator's, and no contract says it. The machine then stands there, and each step before kept to each rule that applied.
+/// Out of memory for what is known of the rules, before the run, or to find out what is reachable, before a step of it. It comes only where
+/// there are rules: without any nothing is asked of the allocator. The machine then stands there, and each step before kept to each rule
+/// that applied.
 pub fn find_breach<C: CapRep>(
     alloc: Global,
     machine: &mut Machine<C>,
@@ -56,6 +57,7 @@ pub fn find_breach<C: CapRep>(
     ensures kept { IfOk result (λ b. IfSome b (λ x.
         StepsKeepToEach (terms_of rules.now) (events_before (Some x.number) schedule input.now machine.old) machine.old)) }
     ensures midway { OnErr result (LeavesMidway (terms_of rules.now) schedule input.now machine.old machine.new) }
+    ensures room { OnErr result (1 ≤ length rules.now) }
 {
     let mut watcher = Watcher::new(alloc, rules)?;
     let mut done = 0;

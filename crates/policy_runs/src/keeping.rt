@@ -1,6 +1,6 @@
 //! Steps of a machine that keep to rules.
 
-ghost use Rattle.std.specs.Prelude.{◌≡◌, ◌≤◌, false, [], replicate, IfNone, IfOk, IfSome, OnErr, OnOk};
+ghost use Rattle.std.specs.Prelude.{◌≡◌, ◌≤◌, false, [], length, replicate, IfNone, IfOk, IfSome, OnErr, OnOk};
 ghost use Rattle.steps.specs.declared.event.Event.TheVariants.{Step};
 ghost use Rattle.policy.specs.Known.{Knows, rules_of, said_to};
 ghost use Rattle.policy.specs.Watch.{HoldEach};
@@ -31,6 +31,7 @@ fn go_on<C: CapRep>(
     ensures knows { OnOk result (Knows watcher.new machine.new) }
     ensures said { said_to watcher.new ≡ said_to watcher.old }
     ensures same { OnErr result (machine.new ≡ machine.old) }
+    ensures room { OnErr result (1 ≤ length (said_to watcher.old)) }
 {
     let fast = watcher.advance(machine, most);
     if fast > 0 {
@@ -56,6 +57,7 @@ pub(crate) fn keep_steps<C: CapRep>(
     ensures knows { IfOk result (λ b. IfNone b (Knows watcher.new machine.new)) }
     ensures said { said_to watcher.new ≡ said_to watcher.old }
     ensures midway { OnErr result (StandsMidway (said_to watcher.old) (rules_of watcher.old) [] count machine.old machine.new) }
+    ensures room { OnErr result (1 ≤ length (said_to watcher.old)) }
 {
     let mut done = 0;
     while done < count {

@@ -368,6 +368,10 @@ abbrev pub line_by : List Symbol → List Definition → List ℕ → Option (Li
 line_by symbols definitions line (Some sides) = definition_of symbols definitions sides.0 sides.1 >>= λ d. Ok (definition d)
 line_by symbols definitions line None = rule_line symbols definitions line (cut_at 58 line)
 
+-- whether a line without its comment says anything
+abbrev pub has_word : List ℕ → Bool
+has_word line = not (length (words_of line) == 0)
+
 unfoldable pub line_of : List Symbol → List Definition → List ℕ → Result Line PolicyCode
 line_of symbols definitions line =
     if length (words_of line) == 0 then Ok nothing else line_by symbols definitions line (cut_at 61 line)

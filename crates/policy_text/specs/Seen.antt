@@ -1,6 +1,7 @@
 -- How an answer speaks of a text: what memory holds as the specification's own values, and faults that are the text's unless there was no
 -- memory.
-use Rattle.std.specs.Prelude.{◌≡◌, ℕ, List, ◌++◌, map, zip, option_map, Result, Ok, Err}
+use Rattle.std.specs.Prelude.{◌≡◌, ℕ, Bool, true, List, ◌++◌, map, zip, option_map, Result, Ok, Err}
+use Rattle.std.specs.List.{list_any}
 use Rattle.policy.specs.Terms.{Terms, terms, terms_of}
 use Rattle.policy_text.specs.declared.fault.PolicyCode.{PolicyCode}
 use Rattle.policy_text.specs.declared.fault.PolicyTextFault.{PolicyTextFault}
@@ -12,7 +13,7 @@ use Rattle.policy_text.specs.declared.parts.Parts.{Parts as HeldParts}
 use Rattle.policy_text.specs.declared.line.Line.{Line as HeldLine}
 use Rattle.policy_text.specs.declared.line.Line.TheVariants as held
 use Rattle.policy_text.specs.declared.reading.Policy.{Policy}
-use Rattle.policy_text.specs.Policy.{Definition, Parts, Line, nothing, definition, rule, any_code, Read, ◌>>=◌}
+use Rattle.policy_text.specs.Policy.{Definition, Parts, Line, has_word, uncommented, nothing, definition, rule, any_code, Read, ◌>>=◌}
 
 -- What a function returned, seen so, is what reading gives, unless there was no memory.
 abbrev pub Fails : {B : Type 0} → Fault → Result B PolicyCode → Type 0
@@ -73,3 +74,11 @@ read definitions policy = record { definitions = seen_names definitions; rules =
 abbrev pub IsFaultOf : {A : Type 0} → Result A (ℕ × PolicyCode) → PolicyTextFault → Type 0
 IsFaultOf reading (text_fault.Line line code) = reading ≡ Err (line, code)
 IsFaultOf reading text_fault.Memory = Unit {0}
+
+-- want of memory comes only of a text with a line that has a word before its comment
+abbrev pub has_words : List (List ℕ) → Bool
+has_words lines = list_any (λ line. has_word (uncommented line)) lines
+
+abbrev pub ComesOf : List (List ℕ) → PolicyTextFault → Type 0
+ComesOf lines (text_fault.Line line code) = Unit {0}
+ComesOf lines text_fault.Memory = has_words lines ≡ true

@@ -1,10 +1,11 @@
 //! What a line says.
-ghost use Rattle.std.specs.Prelude.{◌≡◌, ◌++◌, option_map, unwrap_or, IfOk};
+ghost use Rattle.std.specs.Prelude.{◌≡◌, ◌++◌, false, Ok, option_map, unwrap_or, IfOk};
 ghost use Rattle.std.specs.Result.{result_map_both};
 ghost use Rattle.asm_lines.specs.Words.{words_of};
 ghost use Rattle.policy_text.specs.Policy.{everywhere, said, after_when, after_any, code_of, rule_of, name_of, new_name, definition_of};
-ghost use Rattle.policy_text.specs.Policy.{any_line, rule_line, line_of, spoken_of};
+ghost use Rattle.policy_text.specs.Policy.{any_line, has_word, rule_line, line_of, spoken_of};
 ghost use Rattle.policy.specs.Terms.{terms};
+ghost use Rattle.policy_text.specs.declared.line.Line.TheVariants as held;
 ghost use Rattle.policy_text.specs.Seen.{Gives, seen_line, seen_named, seen_names, seen_parts};
 
 use crate::cut::cut_at;
@@ -184,7 +185,8 @@ pub(crate) fn read_line<'a>(
     definitions: &[Named],
     text: &'a [u8],
 ) -> Result<Line<'a>, Fault>
-    ensures { Gives seen_line result (line_of symbols.now (seen_names definitions.now) text.now) }
+    ensures said { Gives seen_line result (line_of symbols.now (seen_names definitions.now) text.now) }
+    ensures silent { has_word text.now ≡ false → result ≡ Ok held.Nothing }
 {
     if is_end(text) {
         return Ok(Line::Nothing);

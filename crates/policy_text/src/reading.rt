@@ -1,8 +1,9 @@
 //! Policies from texts.
-ghost use Rattle.std.specs.Prelude.{◌≡◌, ◌+◌, ◌≤◌, ◌^◌, Ok, IfOk, IfErr, OnOk, length, vec_len};
+ghost use Rattle.std.specs.Prelude.{◌≡◌, ◌+◌, ◌≤◌, ◌^◌, Ok, IfOk, IfErr, IsOk, OnOk, length, vec_len};
 ghost use Rattle.symbols.specs.Symbols.{lines_of};
 ghost use Rattle.policy_text.specs.Policy.{any_code_of, policy_of, with_line};
-ghost use Rattle.policy_text.specs.Seen.{IsFaultOf, read, seen, seen_line};
+ghost use Rattle.policy_text.specs.declared.line.Line.TheVariants as held;
+ghost use Rattle.policy_text.specs.Seen.{ComesOf, IsFaultOf, read, seen, seen_line};
 
 use crate::cut::uncommented;
 use crate::fault::PolicyTextFault;
@@ -35,6 +36,7 @@ fn keep<'a>(
     ensures said { OnOk result (read definitions.new.items policy.new
         ≡ with_line number (read definitions.old.items policy.old) (seen_line said.entry)) }
     ensures paired { OnOk result (vec_len policy.new.rules ≡ vec_len policy.new.lines) }
+    ensures silent { said.entry ≡ held.Nothing → IsOk result }
 {
     match said {
         Line::Nothing => {}
@@ -50,13 +52,14 @@ fn keep<'a>(
 
 /// Reads a policy, with the addresses of labels from a table.
 ///
-/// The fault is the first faulty line. Memory comes in its place where what was read, or is to be, can't grow: how much that takes is the
-/// allocator's, and no contract says it.
+/// The fault is the first faulty line. Memory comes in its place where what was read, or is to be, can't grow: only where a line of the text
+/// has a word before its comment, since nothing is asked of the allocator for the others.
 pub fn read_policy(alloc: Global, text: &[u8], symbols: &Symbols) -> Result<Policy, PolicyTextFault>
     ensures ok { IfOk result (λ policy. policy_of symbols.now text.now ≡ Ok (seen policy)) }
     ensures paired { IfOk result (λ policy. vec_len policy.rules ≡ vec_len policy.lines) }
     ensures any { IfOk result (λ policy. policy.any.items ≡ any_code_of symbols.now text.now) }
     ensures err { IfErr result (IsFaultOf (policy_of symbols.now text.now)) }
+    ensures room { IfErr result (ComesOf (lines_of text.now)) }
 {
     let mut definitions = Vec::new(alloc);
     let mut policy = Policy {

@@ -10,7 +10,8 @@ use Rattle.reach.specs.Reach.{members_in}
 use Rattle.policy.specs.Terms.{terms, terms_of}
 use Rattle.policy.specs.Watch.{values_in}
 use Rattle.policy.specs.Lending.{each_after, is_call, next_door}
-use Rattle.policy.proofs.Forced.{any-terms, each-uncalled, none-lends}
+use Rattle.std.proofs.lemmas.Result.{err_from_is_err_and}
+use Rattle.policy.proofs.Forced.{any-some, any-terms, each-uncalled, none-lends}
 use Rattle.policy.proofs.in_force.step_after.Goals as goal
 
 pub returns-then-not-lends_some-clause-none : goal.returns-then-not-lends_some-clause-none
@@ -48,3 +49,13 @@ returns-clause-some g c =
     c.in_ok-rules.ensures
     ∙ ap (λ vs. each_after vs c.address-pc.result c.next_door-door.result (terms_of c.args.said.now) (terms_of c.args.now.now)) same
     ∙ ap₂ (λ pc door. each_after (values_in s) pc door (terms_of c.args.said.now) (terms_of c.args.now.now)) is c.next_door-door.ensures
+
+pub returns-in_err-reach-clause-room : goal.returns-in_err-reach-clause-room
+returns-in_err-reach-clause-room g c =
+    let p = err_from_is_err_and c.from_residual.result c.from_residual.ensures.1 in
+    rw p.1 (any-some (λ rule. rule.or_caller) c.args.said.now (sym c.lends_some.ensures ∙ c.if-not-lends_some.false))
+
+pub returns-in_err-rules-clause-room : goal.returns-in_err-rules-clause-room
+returns-in_err-rules-clause-room g c =
+    let p = err_from_is_err_and c.from_residual-in_err-rules.result c.from_residual-in_err-rules.ensures.1 in
+    rw p.1 (any-some (λ rule. rule.or_caller) c.args.said.now (sym c.lends_some.ensures ∙ c.if-not-lends_some.false))

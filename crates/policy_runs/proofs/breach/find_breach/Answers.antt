@@ -1,7 +1,8 @@
-use Rattle.std.proofs.Common.{◌≡◌, ◌+◌, ◌∙◌, true, ap, inl, inr, sym, subst, refl, arith}
+use Rattle.std.proofs.Common.{◌≡◌, ◌+◌, ◌∙◌, true, ap, inl, inr, length, sym, subst, refl, arith}
+use Rattle.std.proofs.lemmas.List.{length-map}
 use Rattle.std.proofs.lemmas.Result.{err_from_is_err_and}
 use Rattle.std.specs.Prelude.{is_some}
-use Rattle.policy.specs.Terms.{terms_of}
+use Rattle.policy.specs.Terms.{terms, terms_of}
 use Rattle.policy.specs.Known.{rules_of, said_to}
 use Rattle.schedules.specs.Schedule.{byte_before, first_steps, is_halted, is_tick_after}
 use Rattle.policy_runs.specs.Kept.{Kept}
@@ -149,3 +150,8 @@ returns-in_err-breach-clause-midway g c =
       found-keep by now schedule input l.done n s l.machine c.requires.running l.invariant.kept l.invariant.running some few alone
           midway.0 u there,
     ))
+
+pub returns-in_err-breach-clause-room : goal.returns-in_err-breach-clause-room
+returns-in_err-breach-clause-room g c =
+    let p = err_from_is_err_and c.from_residual-in_err-breach.result c.from_residual-in_err-breach.ensures.1 in
+    rw p.1 (omega (arith, c.in_err-breach.ensures.room, ap length c.loop-done.invariant.said, length-map c.args.rules.now terms))

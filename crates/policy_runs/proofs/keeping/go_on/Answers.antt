@@ -58,3 +58,8 @@ returns-in_err-meet-clause-same g c =
     let none : c.advance-fast.result ≡ 0 = omega (arith, c.if-fast-gt0.false) in
     let p = err_from_is_err_and c.from_residual.result c.from_residual.ensures.1 in
     rw p.1 (c.in_err-meet.ensures.same ∙ c.advance-fast.ensures.state ∙ ap (λ n. run_after (replicate n Step) s) none)
+
+pub returns-in_err-meet-clause-room : goal.returns-in_err-meet-clause-room
+returns-in_err-meet-clause-room g c =
+    let p = err_from_is_err_and c.from_residual.result c.from_residual.ensures.1 in
+    rw p.1 (omega (arith, c.in_err-meet.ensures.room, ap length c.advance-fast.ensures.said))

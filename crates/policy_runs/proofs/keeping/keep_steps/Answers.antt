@@ -1,4 +1,4 @@
-use Rattle.std.proofs.Common.{◌≡◌, ℕ, ◌+◌, ◌-◌, ◌<◌, ◌≤◌, ◌∙◌, false, true, List, [], ap, sym, subst, replicate, rules, refl, arith}
+use Rattle.std.proofs.Common.{◌≡◌, ℕ, ◌+◌, ◌-◌, ◌<◌, ◌≤◌, ◌∙◌, false, true, List, [], ap, length, sym, subst, replicate, rules, refl, arith}
 use Rattle.std.proofs.lemmas.Result.{err_from_is_err_and}
 use Rattle.std.specs.Prelude.{is_some}
 use Rattle.steps.specs.declared.event.Event.TheVariants.{Step}
@@ -129,3 +129,13 @@ returns-clause-none g c =
     let all : l.done ≡ c.args.count = omega (arith, l.invariant.few, c.loop-done-test.false) in
     subst (λ n. Kept (said_to w) (rules_of w) (rules_of l.watcher) (replicate n Step) c.args.machine.now l.machine) all
     l.invariant.kept
+
+pub returns-in_err-refused-clause-room : goal.returns-in_err-refused-clause-room
+returns-in_err-refused-clause-room g c =
+    let p = err_from_is_err_and c.from_residual.result c.from_residual.ensures.1 in
+    rw p.1 (omega (arith, c.in_err-refused.ensures.room, ap length c.loop-done.invariant.said))
+
+pub returns-in_err-done-clause-room : goal.returns-in_err-done-clause-room
+returns-in_err-done-clause-room g c =
+    let p = err_from_is_err_and c.from_residual-in_err-done.result c.from_residual-in_err-done.ensures.1 in
+    rw p.1 (omega (arith, c.in_err-done.ensures.room, ap length c.refusal.ensures.said, ap length c.loop-done.invariant.said))

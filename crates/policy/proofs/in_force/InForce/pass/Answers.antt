@@ -1,5 +1,6 @@
-use Rattle.std.proofs.Common.{ap, length, sym, ◌∙◌}
+use Rattle.std.proofs.Common.{ap, length, sym, ◌∙◌, arith}
 use Rattle.std.proofs.lemmas.List.{length-map}
+use Rattle.std.proofs.lemmas.Result.{err_from_is_err_and}
 use Rattle.steps.specs.State.{pc_of}
 use Rattle.policy.specs.Terms.{terms, terms_of}
 use Rattle.policy.specs.Watch.{values_in}
@@ -20,3 +21,8 @@ returns-in-Some-clause-paired g c =
     ∙ ap length (rw c.in-Some.is at c.in_ok-rules.ensures.some)
     ∙ each-length (values_in s) (pc_of s) (next_door s) (said_by f) (terms_of now) before
     ∙ length-map f.said.now terms)
+
+pub returns-in_err-rules-clause-room : goal.returns-in_err-rules-clause-room
+returns-in_err-rules-clause-room g c =
+    let p = err_from_is_err_and c.from_residual.result c.from_residual.ensures.1 in
+    rw p.1 (omega (arith, c.in_err-rules.ensures.room, length-map c.args.self.now.said.now terms))

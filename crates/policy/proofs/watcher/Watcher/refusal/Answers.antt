@@ -1,8 +1,9 @@
-use Rattle.std.proofs.Common.{◌≡◌, length, rules, sym, ap, ◌∙◌, subst, ◌⊎◌}
+use Rattle.std.proofs.Common.{◌≡◌, length, rules, sym, ap, ◌∙◌, subst, ◌⊎◌, arith}
 use Rattle.std.specs.Prelude.{Contains, IfSome, IfNone}
-use Rattle.std.proofs.lemmas.List.{with_items_is}
+use Rattle.std.proofs.lemmas.List.{length-map, with_items_is}
+use Rattle.std.proofs.lemmas.Result.{err_from_is_err_and}
 use Rattle.std.specs.Vec.{with_items}
-use Rattle.policy.specs.Terms.{Terms, terms_of}
+use Rattle.policy.specs.Terms.{Terms, terms, terms_of}
 use Rattle.policy.specs.Watch.{Applies, Holds, HoldEach, IsRefused, fetched_at}
 use Rattle.policy.specs.Known.{Applied, AreCertified, rules_of}
 use Rattle.policy.proofs.Looking.{refused-in, holds-in, holds-certain}
@@ -100,3 +101,9 @@ returns-clause-holds g c =
     subst (λ rs. IfNone c.first_refused.result (HoldEach (terms_of rs) s)) c.rules-rules.ensures
     (holds-in c.hart-hart.result.now s c.hart-hart.ensures.value (terms_of c.rules-rules.result.now) c.fetched_at-at.result is
     g.C.CapRep.value c.in_ok-reach.reach c.in_ok-reach.ensures.exact c.first_refused.result c.first_refused.ensures.none)
+
+pub returns-in_err-reach-clause-room : goal.returns-in_err-reach-clause-room
+returns-in_err-reach-clause-room g c =
+    let some = c.each_is_certain.ensures.some c.if-each_is_certain.false in
+    let p = err_from_is_err_and c.from_residual.result c.from_residual.ensures.1 in
+    rw p.1 (omega (arith, some, ap length c.rules-rules.ensures, c.requires.knows.paired, length-map c.args.self.now.force.said.now terms))
