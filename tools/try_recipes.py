@@ -18,7 +18,7 @@ import tempfile
 import time
 
 from pages.recipes import TRIED, applied, changed, names
-from toolchain import ROOT, below, crates
+from toolchain import ROOT, below, crates, folder_of
 
 # What writes the files that are no part of a patch, in this order.
 MAKERS = ("cases/make.py", "pages/programming.py", "pages/reading_order.py", "pages/calls.py")
