@@ -48,7 +48,7 @@ The status is 0 where all went well, for a run where the machine halted with 0; 
 otherwise, where `audit` finds that a policy is broken, and where `prove` doesn't show that it is
 kept; 2 for a command line that is no command; 3 for any other fault.";
 
-/// Puts an argument behind `--ID`, with a value.
+/// An argument named by `--ID`, which a value follows.
 fn named<'a>(id: &'a str, value: &'a str, arg: Arg<'a>) -> Arg<'a>
     ensures rule { rule_of result ≡ as_stands false Named id.entry.now (rule_of arg.entry) }
     ensures local { result.global ≡ arg.entry.global }
@@ -56,7 +56,7 @@ fn named<'a>(id: &'a str, value: &'a str, arg: Arg<'a>) -> Arg<'a>
     arg.long(id).value_name(value)
 }
 
-/// Puts an argument behind `--ID`, without a value.
+/// An argument named by `--ID`, which no value follows.
 fn flag<'a>(id: &'a str, arg: Arg<'a>) -> Arg<'a>
     ensures rule { rule_of result ≡ as_stands false Flag id.entry.now (rule_of arg.entry) }
     ensures local { result.global ≡ arg.entry.global }
