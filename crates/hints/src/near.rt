@@ -33,8 +33,9 @@ fn common_length(text: &[u8], name: &[u8]) -> usize
     ensures of_text { result ≤ length text.now }
     ensures of_name { result ≤ length name.now }
 {
+    let most = text.len().min(name.len());
     let mut count = 0;
-    while count < text.len() && count < name.len() && text[count] == name[count] {
+    while count < most && text[count] == name[count] {
         count += 1;
     }
     count
