@@ -50,7 +50,9 @@ fn expanded(alloc: Global, template: &[u8], faulty: Faulty<'_>) -> Result<Vec<u8
 
 /// Whether an expression is the name of a register, which a label is hardly given.
 fn is_register(value: Expression<'_>) -> bool {
-    value.name.is_some_and(|name| register_named(name).is_some())
+    value
+        .name
+        .is_some_and(|name| register_named(name).is_some())
 }
 
 /// Whether the assembler reads a line, as far as that doesn't hang on others.
