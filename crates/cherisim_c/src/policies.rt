@@ -106,8 +106,10 @@ fn watched(
 {
     let schedule = schedule_of(timetable)?;
     let read = read_labelled(alloc, labels, text)?;
-    let found = breach_ahead(alloc, machine, &read.policy.rules, schedule, input)?;
-    Ok(breach_of(&read.policy.lines, found))
+    match breach_ahead(alloc, machine, &read.policy.rules, schedule, input) {
+        Ok(found) => Ok(breach_of(&read.policy.lines, found)),
+        Err(_) => Err(Refusal::Memory),
+    }
 }
 
 /// Where a policy stops a run of the machine from its state on: before which step, by which line, part and capability; or that it doesn't.

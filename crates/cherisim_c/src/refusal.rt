@@ -1,12 +1,10 @@
 //! Why a question with labels or by a policy is refused.
 
 ghost use Rattle.std.specs.Prelude.{◌≡◌, ◌≤◌};
-ghost use Rattle.cherisim_c.specs.declared.refusal.Refusal.TheVariants as refusal;
 ghost use Rattle.cherisim_c.specs.Refusals.{policy_status, refusal_line, refusal_status};
 
 use crate::status::{NO_MEMORY, RANGE};
 use policy_text::PolicyCode;
-use std::alloc::AllocError;
 
 /// The status of a table of labels with a faulty line.
 const LABELS: u32 = 57;
@@ -22,14 +20,6 @@ pub(crate) enum Refusal {
     Text(u64, PolicyCode),
     /// Out of memory.
     Memory,
-}
-
-impl From<AllocError> for Refusal {
-    ghost from_gives = { λ _ e. e ≡ refusal.Memory };
-
-    fn from(_: AllocError) -> Refusal {
-        Refusal::Memory
-    }
 }
 
 /// The status of a fault of a policy.

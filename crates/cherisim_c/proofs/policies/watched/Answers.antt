@@ -19,21 +19,21 @@ returns-in_err-read-clause-err c =
     refused_so handed_on.result at.field-0.0 (IsRefusalOf c.args.labels.now c.args.text.now c.args.timetable) handed_on.ensures.1
     (of_texts c.args.labels.now c.args.text.now c.args.timetable at.field-0.0 at.ensures.err)
 
-pub returns-clause-ok : goal.returns-clause-ok
-returns-clause-ok c =
+pub returns-in-Ok-clause-ok : goal.returns-in-Ok-clause-ok
+returns-in-Ok-clause-ok c =
     let read = c.in_ok-read.read in
-    let found = c.in_ok-found.found in
+    let found = c.in-Ok.found in
     let s = c.args.machine.now in
     let input = c.args.input.now in
     let schedule = c.in_ok-schedule.schedule in
-    let rules = subst (λ rs. Stops (terms_of rs) schedule input s found) c.deref.ensures.value c.in_ok-found.ensures in
+    let rules = subst (λ rs. Stops (terms_of rs) schedule input s found) c.deref.ensures.value c.in-Ok.ensures in
     record {
       policy = read.policy;
       is_read = c.in_ok-read.ensures.ok.policy;
       stop = found;
       stops = subst (λ it. Stops (terms_of read.policy.rules.items) it input s found) c.in_ok-schedule.ensures.ok.0 rules;
-      shown = c.breach_of.ensures ∙ ap (λ lines. c_breach lines found) c.deref-2.ensures.value;
+      shown = c.breach_of.ensures ∙ ap (λ lines. c_breach lines found) c.deref-in-Ok.ensures.value;
     }
 
-pub returns-clause-range : goal.returns-clause-range
-returns-clause-range c = subst IsRunnable c.in_ok-schedule.ensures.ok.0 c.in_ok-schedule.ensures.ok.1
+pub returns-in-Ok-clause-range : goal.returns-in-Ok-clause-range
+returns-in-Ok-clause-range c = subst IsRunnable c.in_ok-schedule.ensures.ok.0 c.in_ok-schedule.ensures.ok.1
