@@ -1,6 +1,6 @@
 //! Steps while RAM has some bytes.
 
-ghost use Rattle.std.specs.Prelude.{◌≡◌, ℕ, ◌-◌, ◌<◌, ◌≤◌, None, Some, IfSome, IsTrue, false, option_to_list, replicate};
+ghost use Rattle.std.specs.Prelude.{◌≡◌, ℕ, ◌-◌, ◌<◌, ◌≤◌, None, Some, IfSome, IsTrue, false, bytes_eq, option_to_list, replicate};
 ghost use Rattle.machine.specs.Run.{run_after, run_sent};
 ghost use Rattle.steps.specs.declared.event.Event.TheVariants.{Step};
 ghost use Rattle.cherisim_c.specs.Running.{sent_of};
@@ -14,12 +14,19 @@ use machine::{Advance, Event, Machine};
 use std::alloc::Global;
 use word_cap::WordCap;
 
+/// Whether bytes are the same.
+fn are_same(held: &[u8], bytes: &[u8]) -> bool
+    ensures { result ≡ bytes_eq held.now bytes.now }
+{
+    held == bytes
+}
+
 /// Whether RAM has these bytes from an address on.
 fn has_bytes(machine: &Machine<WordCap>, address: u64, bytes: &[u8]) -> bool
     ensures { result ≡ has_bytes address bytes.now machine.now }
 {
     match machine.memory().bytes(address, bytes.len() as u64) {
-        Ok(held) => held == bytes,
+        Ok(held) => are_same(held, bytes),
         Err(_) => false,
     }
 }
