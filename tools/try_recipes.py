@@ -4,21 +4,20 @@
     python3 tools/try_recipes.py NAME ..            the crates that recipes/NAME.patch changes, and what stands below them
     python3 tools/try_recipes.py --whole NAME ..    every crate, the program and the C libraries; then the cases that scripts make of it
 
-The copy is a clone of the last commit, with what scripts make written anew and the numbers of cases counted. It takes the libraries that
-the checkout has built, so that a crate which the recipe leaves alone, with all below it, costs nothing. Of one that passes the day and the
-minutes of wall time are written into recipes/tried.txt. It ends with 1 at the first that fails; its copy stays, and is said.
+The copy is a clone of the last commit, with what scripts make written anew and the numbers of cases counted. `rt ci` with names proves in
+it, from nothing: a crate which the recipe leaves alone, with all below it, costs nothing where the gate kept it. Of one that passes the day
+and the minutes of wall time are written into recipes/tried.txt. It ends with 1 at the first that fails; its copy stays, and is said.
 """
 import datetime
 import os
 import re
-import shutil
 import subprocess
 import sys
 import tempfile
 import time
 
 from pages.recipes import TRIED, applied, changed, names
-from toolchain import ROOT, below, crates, folder_of
+from toolchain import ROOT, below, crates
 
 # What writes the files that are no part of a patch, in this order.
 MAKERS = ("cases/make.py", "pages/programming.py", "pages/reading_order.py", "pages/calls.py")
@@ -47,19 +46,10 @@ def count_cases(room):
         file.write(text)
 
 
-def take_built(room):
-    """Links the libraries that the checkout has built into the copy: rt takes those whose texts, with all below, are the same."""
-    for crate in crates():
-        made = os.path.join(folder_of(crate), "out", "rlib")
-        if os.path.exists(os.path.join(made, "stamp")):
-            shutil.copytree(made, os.path.join(room, os.path.relpath(made, ROOT)), copy_function=os.link, symlinks=True)
-
-
 def copied(name, room):
     """Makes a copy with the recipe; answers whether that went well."""
     if not called(["git", "clone", "-q", ROOT, room], os.path.dirname(room)):
         return False
-    take_built(room)
     told = applied(name, room=room).stderr
     print(told, end="")
     if told or not all(called([sys.executable, os.path.join("tools", maker)], room) for maker in MAKERS):
@@ -81,7 +71,7 @@ def commands(name, room, whole):
     python = lambda *words: ([sys.executable, *words], room)
     if whole:
         return [python("tools/prove.py"), (["make", "-s", "-C", "c", "all"], room), python("tools/try_cases.py")]
-    return [(["rt", "check"], os.path.join(room, "crates", crate)) for crate in touched(name)]
+    return [(["rt", "ci", *touched(name)], room)]
 
 
 def tell(name, minutes):
