@@ -1,21 +1,14 @@
 -- Lines with a word before their comment.
-use Rattle.std.proofs.Common.{◌≡◌, ℕ, Bool, true, false, ◌||◌, List, ◌∷◌, refl, ap, ◌∙◌}
+use Rattle.std.proofs.Common.{◌≡◌, ℕ, Bool, true, false, List, ◌∷◌, refl}
 use Rattle.policy_text.specs.declared.fault.Fault.{Fault}
 use Rattle.policy_text.specs.declared.fault.Fault.TheVariants.{Code, Memory}
 use Rattle.policy_text.specs.Policy.{has_word, uncommented}
 use Rattle.policy_text.specs.FaultAt.{fault_at}
 use Rattle.policy_text.specs.Seen.{ComesOf, has_words}
 
-or-true : (a : Bool) → (a || true) ≡ true
-or-true true = refl
-or-true false = refl
-
 not-false : (a : Bool) → (a ≡ false → ⊥) → a ≡ true
 not-false true never = refl
 not-false false never = absurd (never refl)
-
-pub more : (line : List ℕ) (lines : List (List ℕ)) → has_words lines ≡ true → has_words (line ∷ lines) ≡ true
-more line lines has = rw has (or-true (has_word (uncommented line)))
 
 pub here : (line : List ℕ) (lines : List (List ℕ)) → (has_word (uncommented line) ≡ false → ⊥) → has_words (line ∷ lines) ≡ true
 here line lines never = rw (not-false (has_word (uncommented line)) never) refl

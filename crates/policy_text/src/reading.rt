@@ -52,8 +52,8 @@ fn keep<'a>(
 
 /// Reads a policy, with the addresses of labels from a table.
 ///
-/// The fault is the first faulty line. Memory comes in its place where what was read, or is to be, can't grow: only where a line of the text
-/// has a word before its comment, since nothing is asked of the allocator for the others.
+/// The fault is the first faulty line. Memory comes in its place where what was read, or is to be, can't grow: only where a line of the
+/// text has a word before its comment, since nothing is asked of the allocator for the others.
 pub fn read_policy(alloc: Global, text: &[u8], symbols: &Symbols) -> Result<Policy, PolicyTextFault>
     ensures ok { IfOk result (λ policy. policy_of symbols.now text.now ≡ Ok (seen policy)) }
     ensures paired { IfOk result (λ policy. vec_len policy.rules ≡ vec_len policy.lines) }
