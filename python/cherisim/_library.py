@@ -9,6 +9,8 @@ from ._calls import (CALLS, CONSTANTS, Answer, Asked, Breach, Cap, Console, Door
 
 UNSEALED, SENTRY = 0x3FFFF, 0x3FFFE
 """The object types of what is not sealed, and of a sentry."""
+RESERVED = 0x3FFFC
+"""The first object type that nothing seals with."""
 NULL_UPPER = 0x1FFFFC018004
 """The upper half of null, and so of each number in a register."""
 

@@ -7,7 +7,10 @@ from typing import Callable, Dict, Iterable, Iterator, List, Optional, Tuple
 from . import (CSRS, PAGE, RAM, REGISTERS, SCRS, SENTRY, UNSEALED, Cap, CherisimError, Door, Machine, OutOfRange, Perms, Reach, ReachMember,
                disassemble)
 from ._html import letters
-from ._origins import _RESERVED, Place, Told, place_of
+from ._library import RESERVED
+from ._objects import capability
+from ._objects import line as _line
+from ._origins import Place, Told, place_of
 from ._replay import Replay
 from ._symbols import NAME
 
@@ -32,7 +35,7 @@ reg R                   a general or special register as a capability
 caps                    the capabilities in RAM
 mem ADDR [LEN]          bytes of RAM: 16, or at most 4096
 dis [ADDR [N]]          words of RAM, or from PCC's address on, as instructions: 8, or at most 1024
-reach, reach members    what the code that runs can come to hold, in sum and each; reach doors: through doors, too; reach dot: a graph
+reach, reach members    what the code that runs can come to hold, in sum and each; reach doors: through doors, too; reach dot: a graph; reach json: objects
 origin R|ADDR           what a place's value was made of
 lost R|ADDR             where its tag went
 may store ADDR LEN      whether it may store there; load, execute, learn and keep likewise
@@ -192,14 +195,22 @@ class Monitor:
     def _member(self, it: ReachMember) -> str:
         return f"{it.number} {self._place(it)}{'' if it.from_ is None else f' from {it.from_}'} {self._shown(it.value)}\n"
 
+    def _object(self, it: ReachMember) -> str:
+        """A member as an object of JSON (docs/JSON.md)."""
+        granule = self._symbols.place(it.where) if isinstance(it.where, int) else None
+        return _line({"member": it.number, "from": it.from_, "register": None if granule else self._place(it), "granule": granule,
+                      "capability": capability(it.value)})
+
     def _reach(self, what: str = "") -> str:
-        if what not in ("", "members", "dot", "doors"):
+        if what not in ("", "members", "dot", "json", "doors"):
             raise Fault("B2")
         reach = self._machine.reach(doors=what == "doors")
         if what == "dot":
             return self._graph(reach)
         if what == "members":
             return "".join(map(self._member, reach))
+        if what == "json":
+            return "".join(map(self._object, reach))
         kinds = ["door" if isinstance(it.where, Door) else "register" if it.from_ is None else "special" if it.where in SCRS else "memory"
                  for it in reach]
         opened = f", behind doors {kinds.count('door')}" if what else ""
@@ -232,7 +243,7 @@ class Monitor:
         text = ""
         for begin, end in _merged((it.value.base, it.value.top) for it in reach if _has(it.value, needs)):
             if name.endswith("seal"):
-                text += f"{name} {begin:05x} to {min(end, _RESERVED):05x}\n" if begin < _RESERVED else ""
+                text += f"{name} {begin:05x} to {min(end, RESERVED):05x}\n" if begin < RESERVED else ""
             else:
                 text += f"{name} {self._symbols.shown(begin)} to {end:017x}\n"
         return text or f"{name} none\n"

@@ -11,7 +11,7 @@ from typing import TYPE_CHECKING, Callable, Dict, Iterator, List, NamedTuple, Op
 
 from . import RAM, REGISTERS, SCRS, SENTRY, Cap, Insn, Machine, Perms, Stop, Symbols, decode, disassemble
 from . import _library as c
-from ._library import lib
+from ._library import RESERVED, lib
 from ._names import _SHOWN
 
 if TYPE_CHECKING:
@@ -22,7 +22,6 @@ _T = TypeVar("_T")
 
 _SPAN, _LONGEST = 2000, 250_000  # steps that are looked at first, from the last one back, and at most at once
 _GRANULE, _ALL = 16, (1 << 64) - 1
-_RESERVED = 0x3FFFC  # the first object type that nothing seals with
 _SPECIAL = {number: name for name, number in SCRS.items()}
 _VIEWS = {0x305: "mtcc", 0x341: "mepcc"}  # control and status registers that are the address of a special one
 _ACCESSES = frozenset(("lc", "sc", "sb", "sh", "sw", "sd"))  # what reads or writes granules
@@ -320,9 +319,9 @@ class Told:
             yield f"permit load capability of {by}", Perms.Load_Capability in a.perms
             return
         yield f"tag of {by}", a.tag
-        yield f"seal of {at}", v.otype < _RESERVED if way == "unsealed" else not v.sealed
+        yield f"seal of {at}", v.otype < RESERVED if way == "unsealed" else not v.sealed
         yield f"seal of {by}", not a.sealed
-        right, same = (Perms.Unseal, a.address == v.otype) if way == "unsealed" else (Perms.Seal, a.address < _RESERVED)
+        right, same = (Perms.Unseal, a.address == v.otype) if way == "unsealed" else (Perms.Seal, a.address < RESERVED)
         yield f"permit {way[:-2]} of {by}", right in a.perms
         yield self._length(by, a, 1)
         yield f"type of {by}", same

@@ -4,7 +4,7 @@ from __future__ import annotations
 
 import re
 from bisect import bisect_right
-from typing import TYPE_CHECKING, Dict, Iterable, Iterator, List, Mapping, Optional, Tuple
+from typing import TYPE_CHECKING, Dict, Iterable, Iterator, List, Mapping, Optional, Tuple, Union
 
 from ._faults import OutOfRange, SymbolsFault
 
@@ -73,13 +73,24 @@ class Symbols:
         """Their table, as `cherisim asm --symbols` writes it."""
         return self._table
 
+    def _label(self, address: int) -> Optional[Tuple[int, str]]:
+        """The label at an address or fewer than 4096 bytes below it."""
+        at = bisect_right(self._rows, (address, "\U0010ffff")) - 1
+        return self._rows[at] if at >= 0 and address - self._rows[at][0] < _NEAR else None
+
     def near(self, address: int) -> str:
         """The label at an address or fewer than 4096 bytes below it, as `<table+16>`: empty where there is none."""
-        at = bisect_right(self._rows, (address, "\U0010ffff")) - 1
-        if at < 0 or address - self._rows[at][0] >= _NEAR:
+        found = self._label(address)
+        if found is None:
             return ""
-        begin, name = self._rows[at]
+        begin, name = found
         return f"<{name}>" if begin == address else f"<{name}+{address - begin}>"
+
+    def place(self, address: int) -> Dict[str, Union[str, int, None]]:
+        """A place as objects of JSON have it (docs/JSON.md)."""
+        begin, name = self._label(address) or (None, None)
+        return {"address": f"0x{address:016x}", "label": name, "offset": None if begin is None else address - begin,
+                "source": self.lines.get(address)}
 
     def shown(self, address: int) -> str:
         """An address in 16 hexadecimal digits, and the label near it."""

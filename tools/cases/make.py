@@ -44,6 +44,7 @@ SOURCES = [
     "pasts",
     "command_lines",
     "program_cases",
+    "objects",
     "policed",
     "callers",
     "audits",

@@ -159,7 +159,7 @@ def reached():
         return asked(labels, (f"step {steps}\n" if steps else "") + "\n".join(lines), done + answer)
 
     yield "# what is reachable is shown with the label at a granule's address or fewer than 4096 bytes below it"
-    for line in ("reach", "reach members", "reach dot", "reach doors"):
+    for line in ("reach", "reach members", "reach dot", "reach json", "reach doors"):
         yield session(LABELS, line)
     yield session(MORE_LABELS, "reach members")
     yield session(LABELS, "reach members", steps=0)

@@ -12,6 +12,7 @@ from model.capabilities import base, is_unsealed, perms, top
 from model.devices import CONTROL, HALT, RAM, RECEIVE, STATUS, TIMER, TIMER_COMPARE, TRANSMIT
 from model.listings import named_address
 from model.names import CAPABILITY_NAMES, SPECIALS
+from model.objects import capability, line, place
 from model.origins import fields
 from model.rights import ACCESS_SYSTEM_REGISTERS, ALL, SEAL, SENTRY, STORE, UNSEAL, UNSEALED, letters
 from model.sessions import Session, address
@@ -48,6 +49,14 @@ def member_text(number, member, labels=()):
 
 def members_text(found, labels=()):
     return [member_text(number, member, labels) for number, member in enumerate(found)]
+
+
+def objects_text(found, labels=()):
+    """The members, an object a line."""
+    for number, (value, at, source) in enumerate(found):
+        granule = at[0] == reach.GRANULE
+        yield line({"member": number, "from": source, "register": None if granule else place_name(at),
+                    "granule": place(at[1], labels) if granule else None, "capability": capability(value)}).rstrip()
 
 
 def graph_text(found, labels=()):
@@ -89,7 +98,7 @@ def listed(things):
     return [f"{name} {thing}" for name, some in things.items() for thing in some or ["none"]]
 
 
-VIEWS = {"reach": summary, "reach members": members_text, "reach dot": graph_text}
+VIEWS = {"reach": summary, "reach members": members_text, "reach dot": graph_text, "reach json": objects_text}
 COUNTED = (("registers", reach.ROOT), ("special registers", reach.SPECIAL), ("memory", reach.GRANULE), ("behind doors", reach.DOOR))
 
 
@@ -274,7 +283,7 @@ MACHINE = ["may send", "may halt", "may system", "may timer"]
 # Asked only where no member may seal with the type: what code seals itself is not held yet.
 TYPES = ["may hold 7", "may hold 8", "may hold 0", f"may hold {SENTRY}", f"may hold {UNSEALED}", "may hold 0x0007"]
 
-SEEN = ["reach", "reach members", "reach dot", *MACHINE]
+SEEN = ["reach", "reach members", "reach dot", "reach json", *MACHINE]
 
 
 def edges(address):
@@ -349,7 +358,7 @@ def conversations():
 
 # Operands of `reach` and `may` that are refused, and names that are no commands.
 REFUSED_OPERANDS = [
-    "reach x", "reach members 1", "reach members dot", "reach dot 1", "reach 1", "reach Members", "reach member", "may", "may x",
+    "reach x", "reach members 1", "reach members dot", "reach dot 1", "reach json 1", "reach JSON", "reach 1", "reach Members", "reach member", "may", "may x",
     "reach doors 1", "reach doors doors", "reach Doors", "reach through doors", "may send through", "may send doors", "may send doors through",
     "may send through doors 1", "may send Through doors", "may send through door", "may through doors", "may through doors send",
     "may hold 7 through", "may hold through doors", "may hold 7 7 through doors", "may store 0x80000000 through doors",

@@ -29,7 +29,7 @@ caps
 mem ADDR [LEN]
 dis [ADDR [N]]
 why
-reach [members|dot|doors]
+reach [members|dot|json|doors]
 may store|load|execute|learn ADDR LEN [through doors]
 may keep [ADDR LEN] [through doors]
 may send|halt|system|timer [through doors]

@@ -79,8 +79,8 @@ def words_of_plan(plan):
         line = [command, image, "--steps", steps, "--times", words.pop(0)] if command == "go" else [command, image, steps]
         gap, tick, given, *rest = words
         line += ["--gap", gap, "--tick", tick, *named("--input", given)]
-        if rest[:1] == ["quiet"]:
-            line, rest = [*line, "--quiet"], rest[1:]
+        while rest[:1] in (["quiet"], ["json"]):
+            line, rest = [*line, f"--{rest[0]}"], rest[1:]
         for name, value in zip(rest[::2], rest[1::2]):
             line += {"why": [f"--why={value}" if value in ("all", "double") else "--why"]}.get(name, [f"--{name}", value])
         return line
@@ -94,9 +94,9 @@ def words_of_plan(plan):
         return ["image", flat, output, *(word for option, value in options for word in named(option, value))]
     if command == "bounds":
         base = [] if words[0] == "-" else words[:1]
-        return ["bounds", *base, words[1], *named("--address", words[2])]
+        return ["bounds", *base, words[1], *named("--address", words[2]), *(f"--{flag}" for flag in words[3:])]
     if command == "word":
-        return ["word", *words[:2], *(["--memory"] if words[2:] else [])]
+        return ["word", *words[:2], *(f"--{flag}" for flag in words[2:])]
     if command == "debug":
         image, *options = words
         options = zip(("--symbols", "--input", "--gap", "--tick"), options)

@@ -73,12 +73,14 @@ fn fill<C: CapRep>(found: &[Found<C>], members: &mut [Member])
     }
 }
 
-/// Copies members to where there is room for them all.
-pub(crate) fn copy<C: CapRep>(found: &[Found<C>], members: &mut [Member]) -> u32
+/// Copies members to where there is room for them all, and counts them.
+pub(crate) fn copy<C: CapRep>(found: &[Found<C>], members: &mut [Member], count: &mut u64) -> u32
+    ensures count { count.new ≡ length found.now }
     ensures only { (result ≡ 0) ⊎ (result ≡ full) }
     ensures ok { result ≡ 0 → map shown_member (take (length found.now) members.new) ≡ map c_member (seen_members C.value found.now) }
     ensures full { result ≡ full → (length members.old < length found.now) × (members.new ≡ members.old) }
 {
+    *count = found.len() as u64;
     if found.len() <= members.len() {
         fill(found, members);
         OK
@@ -115,10 +117,7 @@ fn copy_reach(
     ensures only { (result ≡ 0) ⊎ ((result ≡ full) ⊎ (result ≡ no_memory)) }
 {
     match reach_of(alloc, machine) {
-        Ok(reach) => {
-            *count = reach.members().len() as u64;
-            copy(reach.members(), members)
-        }
+        Ok(reach) => copy(reach.members(), members, count),
         Err(_) => NO_MEMORY,
     }
 }

@@ -14,7 +14,7 @@ use machine::{Advance, Event, Machine};
 use std::alloc::Global;
 use word_cap::WordCap;
 
-/// Whether bytes are the same.
+/// Whether bytes are the same: by itself, so that its caller is proved by this one clause.
 fn are_same(held: &[u8], bytes: &[u8]) -> bool
     ensures { result ≡ bytes_eq held.now bytes.now }
 {

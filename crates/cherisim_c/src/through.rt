@@ -35,10 +35,7 @@ fn copy_reach(
     ensures only { (result ≡ 0) ⊎ ((result ≡ full) ⊎ (result ≡ no_memory)) }
 {
     match through_of(alloc, machine) {
-        Ok(found) => {
-            *count = found.members.len() as u64;
-            copy(&found.members, members)
-        }
+        Ok(found) => copy(&found.members, members, count),
         Err(_) => NO_MEMORY,
     }
 }
@@ -95,12 +92,14 @@ fn fill(found: &[Found], doors: &mut [Door])
     }
 }
 
-/// Copies doors to where there is room for them all.
-fn copy_doors(found: &[Found], doors: &mut [Door]) -> u32
+/// Copies doors to where there is room for them all, and counts them.
+fn copy_doors(found: &[Found], doors: &mut [Door], count: &mut u64) -> u32
+    ensures count { count.new ≡ length found.now }
     ensures only { (result ≡ 0) ⊎ (result ≡ full) }
     ensures ok { result ≡ 0 → take (length found.now) doors.new ≡ map c_door found.now }
     ensures full { result ≡ full → (length doors.old < length found.now) × (doors.new ≡ doors.old) }
 {
+    *count = found.len() as u64;
     if found.len() <= doors.len() {
         fill(found, doors);
         OK
@@ -118,10 +117,7 @@ fn copy_found(alloc: Global, machine: &Machine<WordCap>, doors: &mut [Door], cou
     ensures only { (result ≡ 0) ⊎ ((result ≡ full) ⊎ (result ≡ no_memory)) }
 {
     match through_of(alloc, machine) {
-        Ok(found) => {
-            *count = found.doors.len() as u64;
-            copy_doors(&found.doors, doors)
-        }
+        Ok(found) => copy_doors(&found.doors, doors, count),
         Err(_) => NO_MEMORY,
     }
 }

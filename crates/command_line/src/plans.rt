@@ -94,6 +94,8 @@ pub enum Plan<'a> {
         why: Option<Why>,
         /// The file that its profile is written to, if one is named.
         profile: Option<&'a str>,
+        /// Whether its end is told as an object; with a policy or with `why` it isn't.
+        json: bool,
     },
     /// Run an image.
     Run {
@@ -103,6 +105,8 @@ pub enum Plan<'a> {
         why: Option<Why>,
         /// The file that its profile is written to, if one is named.
         profile: Option<&'a str>,
+        /// Whether its end is told as an object; with a policy or with `why` it isn't.
+        json: bool,
     },
     /// List what breaks a policy in a run of an image, or the policy that the run keeps to.
     Audit(RunRequest<'a>),
@@ -144,6 +148,8 @@ pub enum Plan<'a> {
         length: u64,
         /// An address to be placed against them, if one is named.
         address: Option<u64>,
+        /// Whether that is an object.
+        json: bool,
     },
     /// Say what the word of a capability means.
     Word {
@@ -153,6 +159,8 @@ pub enum Plan<'a> {
         low: u64,
         /// Whether these are the halves of the word as it stands in memory.
         memory: bool,
+        /// Whether that is an object.
+        json: bool,
     },
     /// Run the first image, which the program holds itself.
     First,

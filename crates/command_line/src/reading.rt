@@ -1,11 +1,12 @@
 //! The plan that a command line asks for.
 
-ghost use Rattle.std.specs.Prelude.{◌≡◌, List, [], IsTrue, bytes_eq, Option, IfOk, IfErr, OnOk, Some, map, option_map, codes, if◌then◌else◌, None};
+ghost use Rattle.std.specs.Prelude.{◌≡◌, List, [], IsTrue, bytes_eq, Option, IfOk, IfErr, OnOk, Some, map, option_map, codes, None};
+ghost use Rattle.std.specs.Prelude.{if◌then◌else◌};
 ghost use Rattle.std.specs.List.{list_all};
 ghost use Rattle.clap.specs.Words.{first_of, found_of, rows_of, kind_of, subcommand_rows_of};
 ghost use Rattle.clap.specs.declared.error.kind.ErrorKind.{ErrorKind};
 ghost use Rattle.command_line.specs.CommandLine.{found_in, IsSound, IsTaken, IsPlanOf, NoPlanFits, asks_all, may_stand, line_of, entry_of};
-ghost use Rattle.command_line.specs.CommandLine.{names_ends};
+ghost use Rattle.command_line.specs.CommandLine.{asks_why, has_no_object, names_ends};
 ghost use Rattle.command_line.specs.CommandLine.{Said, AreFit, AreSaid, HasAll, Says, lines_named, commands, files_found, NothingStands};
 ghost use Rattle.command_line.specs.CommandLine.{are_apart, are_two, have_one_name, is_file, is_input, is_written, run_lines};
 ghost use Rattle.command_line.specs.CommandLine.{said_of_lines};
@@ -17,7 +18,9 @@ use crate::misfit::{MISSING, Misfit, misfit_text};
 use crate::plans::{Plan, ProveRequest, RunRequest};
 use crate::program::{alone, program};
 use crate::table::*;
-use crate::values::{amount, ends, file, flag, is_fit, is_used, number, operand, text, why_of};
+use crate::values::{
+    amount, ends, file, flag, is_fit, is_true, is_used, number, operand, text, why_of,
+};
 use clap::error::ErrorKind;
 use clap::{ArgMatches, Error};
 use std::alloc::{AllocError, Global};
@@ -33,6 +36,9 @@ const UNTRACED: &str = "--trace-from and --trace-last go with --trace";
 
 /// A run would have two reasons to stop.
 const TWO_STOPS: &str = "--policy does not go with --why";
+
+/// An object is asked for of an end that has none.
+const NO_OBJECT: &str = "--json goes with neither --policy nor --why";
 
 /// An address is to be placed against no bounds.
 const UNPLACED: &str = "--address goes with BASE and LENGTH";
@@ -80,6 +86,20 @@ fn all_fit<'a>(found: &ArgMatches<'a>, lines: &[Argument]) -> Result<(), Misfit<
     }
 }
 
+/// Whether ends are explained.
+fn asks_why(found: &ArgMatches<'_>) -> bool
+    ensures { result ≡ asks_why (rows_of (found_of found.now)) }
+{
+    text(found, "why").and_then(why_of).is_some()
+}
+
+/// Whether an object is asked for of an end that has none.
+fn has_no_object(found: &ArgMatches<'_>) -> bool
+    ensures { result ≡ has_no_object (rows_of (found_of found.now)) }
+{
+    is_true(found, "json") && (is_used(found, "policy") || asks_why(found))
+}
+
 /// Whether the arguments that are used go together.
 fn may_stand<'a>(found: &ArgMatches<'a>) -> Result<(), Misfit<'a>>
     ensures ok { IfOk result (λ _. IsTrue (may_stand (rows_of (found_of found.now)))) }
@@ -89,8 +109,11 @@ fn may_stand<'a>(found: &ArgMatches<'a>) -> Result<(), Misfit<'a>>
     if from_or_last && !is_used(found, "trace") {
         return Err(Misfit::Told(UNTRACED));
     }
-    if is_used(found, "policy") && text(found, "why").and_then(why_of).is_some() {
+    if is_used(found, "policy") && asks_why(found) {
         return Err(Misfit::Told(TWO_STOPS));
+    }
+    if has_no_object(found) {
+        return Err(Misfit::Told(NO_OBJECT));
     }
     if is_used(found, "address") && !is_used(found, "LENGTH") {
         return Err(Misfit::Told(UNPLACED));
@@ -271,6 +294,7 @@ fn go_plan<'a>(found: &ArgMatches<'a>) -> Plan<'a>
         ),
         why: ends(found, &WHY),
         profile: file(found, &PROFILE),
+        json: flag(found, &RUN_JSON),
     }
 }
 
@@ -288,6 +312,7 @@ fn run_plan<'a>(found: &ArgMatches<'a>) -> Plan<'a>
         ),
         why: ends(found, &WHY),
         profile: file(found, &PROFILE),
+        json: flag(found, &RUN_JSON),
     }
 }
 
@@ -362,6 +387,7 @@ fn bounds_plan<'a>(found: &ArgMatches<'a>) -> Plan<'a>
         base,
         length,
         address: number(found, &ADDRESS),
+        json: flag(found, &JSON),
     }
 }
 
@@ -374,6 +400,7 @@ fn word_plan<'a>(found: &ArgMatches<'a>) -> Plan<'a>
         high: amount(found, &HIGH),
         low: amount(found, &LOW),
         memory: flag(found, &MEMORY),
+        json: flag(found, &JSON),
     }
 }
 
@@ -526,7 +553,7 @@ fn fault_of(alloc: Global, words: &[&str], error: Error) -> PlanFault
     }
 }
 
-/// Whether a word is this one.
+/// Whether a word is this one: by itself, so that its callers are proved by this one clause.
 fn is_word(word: &str, this: &str) -> bool
     ensures { result ≡ bytes_eq word.now this.now }
 {
@@ -558,9 +585,10 @@ fn asks_all(words: &[&str]) -> bool
 /// Reads the words of a command line, the program's name first.
 ///
 /// A file that is written may not bear the name of another file of the command; `--trace-from` and `--trace-last` go with `--trace`,
-/// and `--policy` does not go with `--why`; with one number `bounds` has a length and no address. `-` is standard input, which is read
-/// for one file at most, and for none of `debug`. A number is typed in decimal digits, or in hexadecimal digits after `0x`, and `_` may
-/// stand between two digits. `Help` and `Refused` hold the text for whoever typed the words; `Memory` says that there was none.
+/// and `--policy` does not go with `--why`, nor `--json` with either; with one number `bounds` has a length and no address. `-` is standard
+/// input, which is read for one file at most, and for none of `debug`. A number is typed in decimal digits, or in hexadecimal digits after
+/// `0x`, and `_` may stand between two digits. `Help` and `Refused` hold the text for whoever typed the words; `Memory` says that there
+/// was none.
 pub fn plan<'a>(alloc: Global, words: &'a [&'a str]) -> Result<Plan<'a>, PlanFault>
     ensures taken { OnOk result (IsTaken (map (λ word. word.now) words.entry.now)) }
     ensures ok { IfOk result (IsPlanOf (found_in (map (λ word. word.now) words.entry.now))) }

@@ -215,6 +215,12 @@ pub(crate) const STATUS: Argument = argument!("quiet" Flag Nothing, "",
 pub(crate) const WHY: Argument = argument!("why" FlagOrAll Ends, "WHICH",
     "Explains where the run ended if no instruction could be fetched; --why=all each end, --why=double a trap while one is open");
 
+pub(crate) const RUN_JSON: Argument = argument!("json" Flag Nothing, "",
+    "Tells where the run ended as an object of JSON, on one line of standard error");
+
+pub(crate) const JSON: Argument = argument!("json" Flag Nothing, "",
+    "Answers with an object of JSON, on one line");
+
 pub(crate) const FLAT_ELF: Argument = argument!("flat-elf" Flag Nothing, "",
     "Takes the bytes of an ELF as they stand, where it would be refused");
 
@@ -240,16 +246,16 @@ pub(crate) const COMMANDS: [CommandRow; 10] = [
         "go",
         "Runs a text or an image until it halts; what it sends goes to standard output",
         &[
-            FILE, GO_STEPS, GO_TIMES, INPUT, RUN_GAP, RUN_TICK, STATUS, WHY, PROFILE, TRACE,
-            TRACE_FROM, TRACE_LAST, POLICY, RUN_LABELS, RUN_LINES,
+            FILE, GO_STEPS, GO_TIMES, INPUT, RUN_GAP, RUN_TICK, STATUS, WHY, PROFILE, RUN_JSON,
+            TRACE, TRACE_FROM, TRACE_LAST, POLICY, RUN_LABELS, RUN_LINES,
         ],
     ),
     (
         "run",
         "Runs an image, and writes the bytes that it sends to standard output",
         &[
-            IMAGE, STEPS, TIMES, INPUT, RUN_GAP, RUN_TICK, STATUS, WHY, PROFILE, TRACE, TRACE_FROM,
-            TRACE_LAST, POLICY, RUN_LABELS, RUN_LINES,
+            IMAGE, STEPS, TIMES, INPUT, RUN_GAP, RUN_TICK, STATUS, WHY, PROFILE, RUN_JSON, TRACE,
+            TRACE_FROM, TRACE_LAST, POLICY, RUN_LABELS, RUN_LINES,
         ],
     ),
     (
@@ -293,11 +299,11 @@ pub(crate) const COMMANDS: [CommandRow; 10] = [
     (
         "bounds",
         "Says what setting bounds gives; numbers are decimal, or hexadecimal behind 0x",
-        &[BOUNDS_BASE, LENGTH, ADDRESS],
+        &[BOUNDS_BASE, LENGTH, ADDRESS, JSON],
     ),
     (
         "word",
         "Says what the word of a capability means; numbers are decimal, or hexadecimal behind 0x",
-        &[HIGH, LOW, MEMORY],
+        &[HIGH, LOW, MEMORY, JSON],
     ),
 ];

@@ -3,7 +3,7 @@
 ghost use Rattle.std.specs.Prelude.{◌≡◌, ◌&&◌, ◌||◌, IsSome, IsTrue, Some, None, not, is_some, option_map};
 ghost use Rattle.clap.specs.Words.{found_of, rows_of, first_of};
 ghost use Rattle.command_line.specs.CommandLine.{File, Amount, Used, Explained, said_of};
-ghost use Rattle.command_line.specs.CommandLine.{is_needed, is_file, line_of, why_of, is_used};
+ghost use Rattle.command_line.specs.CommandLine.{is_needed, is_file, is_true, line_of, why_of, is_used};
 ghost use Rattle.command_line.specs.CommandLine.{is_number, is_start};
 ghost use Rattle.command_line.specs.declared.table.Takes.TheVariants.{Nothing, Ends};
 
@@ -24,6 +24,16 @@ pub(crate) fn is_used(found: &ArgMatches<'_>, id: &str) -> bool
     ensures { result ≡ is_used id.now (rows_of (found_of found.now)) }
 {
     text(found, id).is_some()
+}
+
+/// Whether the flag of this id is used.
+pub(crate) fn is_true(found: &ArgMatches<'_>, id: &str) -> bool
+    ensures { result ≡ is_true (first_of id.now (rows_of (found_of found.now))) }
+{
+    match text(found, id) {
+        Some(text) => text == "true",
+        None => false,
+    }
 }
 
 /// Which ends of a run a text asks for.
@@ -139,10 +149,7 @@ pub(crate) fn flag(found: &ArgMatches<'_>, line: &Line<'_>) -> bool
     requires kind { line.now.2 ≡ Nothing }
     ensures { said_of (rows_of (found_of found.now)) (line_of line.now) ≡ Some (Used result) }
 {
-    match text(found, line.0) {
-        Some(text) => text == "true",
-        None => false,
-    }
+    is_true(found, line.0)
 }
 
 /// Which ends of a run are explained.

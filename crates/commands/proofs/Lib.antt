@@ -5,3 +5,4 @@ pub mod Policies
 pub mod Sources
 pub mod FirstRun
 pub mod Failing
+pub mod Shown

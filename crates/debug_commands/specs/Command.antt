@@ -217,6 +217,7 @@ abbrev pub reaches : List Line
 reaches =
     choice (codes "members") (nothing (Shows view.ReachMembers))
     ∷ choice (codes "dot") (nothing (Shows view.ReachGraph))
+    ∷ choice (codes "json") (nothing (Shows view.ReachObjects))
     ∷ choice (codes "doors") (nothing (Shows (view.Reach Turn)))
     ∷ []
 
@@ -282,7 +283,7 @@ of_states help =
     ∷ line (codes "mem") (codes " ADDR [LEN]") (codes "mem 0x80000000 64") (place 16 1 4096 (λ address n. Shows (view.Memory address n)))
     ∷ line (codes "dis") (codes " [ADDR [N]]") (codes "dis 0x80000000 4") (a_verb dis_of)
     ∷ line (codes "why") [] (codes "why") (nothing (Shows view.Why))
-    ∷ line (codes "reach") (codes " [members|dot|doors]") (codes "reach doors") (a_verb reach_of)
+    ∷ line (codes "reach") (codes " [members|dot|json|doors]") (codes "reach doors") (a_verb reach_of)
     ∷ line (codes "may")
     (codes " store|load|execute|learn ADDR LEN [through doors]\nmay keep [ADDR LEN] [through doors]\n"
     ++ codes "may send|halt|system|timer [through doors]\nmay hold TYPE [through doors]") (codes "may store 0x80000000 8") (a_verb may_of)

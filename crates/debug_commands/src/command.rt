@@ -83,6 +83,8 @@ pub enum View {
     ReachMembers,
     /// The same as a graph, a text for Graphviz.
     ReachGraph,
+    /// The same as objects of JSON, one a line.
+    ReachObjects,
     /// Whether the code that runs from here on may do something.
     May(May, Horizon),
     /// The stops of the session.

@@ -83,7 +83,7 @@ macro_rules! of_states {
                 p => Command::Shows(View::Memory { address: p.0, count: p.1 });
             "dis" (" [ADDR [N]]", "dis 0x80000000 4") (verb dis_of) n => ();
             "why" ("", "why") (nothing) n => Command::Shows(View::Why);
-            "reach" (" [members|dot|doors]", "reach doors") (verb reach_of) n => ();
+            "reach" (" [members|dot|json|doors]", "reach doors") (verb reach_of) n => ();
             "may" (" store|load|execute|learn ADDR LEN [through doors]\n\
                 may keep [ADDR LEN] [through doors]\n\
                 may send|halt|system|timer [through doors]\n\
@@ -102,6 +102,7 @@ macro_rules! reaches {
             $($what)*;
             "members" () (nothing) n => Command::Shows(View::ReachMembers);
             "dot" () (nothing) n => Command::Shows(View::ReachGraph);
+            "json" () (nothing) n => Command::Shows(View::ReachObjects);
             "doors" () (nothing) n => Command::Shows(View::Reach(Horizon::Turn));
         }
     };

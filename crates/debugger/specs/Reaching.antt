@@ -8,6 +8,7 @@ use Rattle.reach.specs.declared.may.May.{May}
 use Rattle.doors.specs.ThroughOrder.{doors_in, members_through}
 use Rattle.reach.specs.Reach.{members_in}
 use Rattle.reach_texts.specs.Asked.{first_that}
+use Rattle.reach_texts.specs.Object.{objects_text}
 use Rattle.reach_texts.specs.Summary.{summary_text}
 use Rattle.reach_texts.specs.Text.{answer_text, graph_text, members_text}
 
@@ -20,6 +21,9 @@ members_reply symbols s = members_text symbols (members_in s)
 
 abbrev pub graph_reply : List Symbol → State → List ℕ
 graph_reply symbols s = graph_text symbols (members_in s)
+
+abbrev pub objects_reply : List Symbol → State → List ℕ
+objects_reply symbols s = objects_text symbols (members_in s)
 
 abbrev pub may_reply : Horizon → List Symbol → May → State → List ℕ
 may_reply Stretch symbols may s = answer_text Stretch symbols [] (members_in s) (first_that may (members_in s))

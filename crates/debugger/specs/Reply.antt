@@ -54,7 +54,7 @@ use Rattle.schedules.specs.Schedule.{is_halted}
 use Rattle.debugger.specs.Stepping.{at_stops, counted_steps, is_any_stop, most_sent, nowhere, of_go, steps_holding, steps_while}
 use Rattle.sim_run.specs.Stopping.{is_stop as is_trap_met}
 use Rattle.sim_run.specs.declared.stopping.StopAt.TheVariants.{Unfetched}
-use Rattle.debugger.specs.Reaching.{graph_reply, may_reply, members_reply, reach_reply}
+use Rattle.debugger.specs.Reaching.{graph_reply, may_reply, members_reply, objects_reply, reach_reply}
 
 -- ---- commands that give events
 
@@ -301,6 +301,7 @@ view_text symbols stops view.Why s = why_text symbols s
 view_text symbols stops (view.Reach horizon) s = reach_reply horizon symbols s
 view_text symbols stops view.ReachMembers s = members_reply symbols s
 view_text symbols stops view.ReachGraph s = graph_reply symbols s
+view_text symbols stops view.ReachObjects s = objects_reply symbols s
 view_text symbols stops (view.May may horizon) s = may_reply horizon symbols may s
 view_text symbols stops view.Stops s = stops_text stops
 view_text symbols stops view.Help s = help_text

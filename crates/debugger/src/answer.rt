@@ -12,7 +12,7 @@ ghost use Rattle.debugger.specs.SessionState.{session_with};
 
 use crate::caps::append_caps;
 use crate::ram::{append_memory, append_words};
-use crate::reaching::{append_graph, append_may, append_members, append_reach};
+use crate::reaching::{append_graph, append_may, append_members, append_objects, append_reach};
 use crate::recalling::{recalled, told_back};
 use crate::reply::Reply;
 use crate::run::told_events;
@@ -149,6 +149,7 @@ fn append_view<C: CapRep>(
         View::Reach(horizon) => append_reach(text, alloc, symbols, machine.hart(), horizon),
         View::ReachMembers => append_members(text, alloc, symbols, machine.hart()),
         View::ReachGraph => append_graph(text, alloc, symbols, machine.hart()),
+        View::ReachObjects => append_objects(text, alloc, symbols, machine.hart()),
         View::May(may, horizon) => append_may(text, alloc, symbols, machine.hart(), may, horizon),
         View::Stops => append_stops(text, stops),
         View::Help => append(text, &[Text(help_text())]),

@@ -1,12 +1,12 @@
 //! What the code that runs from here on can reach, as replies.
 ghost use Rattle.std.specs.Prelude.{◌≡◌, ◌++◌, OnOk, string_bytes};
-ghost use Rattle.debugger.specs.Reaching.{graph_reply, may_reply, members_reply, reach_reply};
+ghost use Rattle.debugger.specs.Reaching.{graph_reply, may_reply, members_reply, objects_reply, reach_reply};
 
 use cap_bounds::CapRep;
 use doors::closure_through_doors;
 use hart::Hart;
 use reach::{Horizon, May, Reach};
-use reach_texts::{first_that, put_answer, put_graph, put_members, put_summary};
+use reach_texts::{first_that, put_answer, put_graph, put_members, put_objects, put_summary};
 use std::alloc::{AllocError, Global};
 use symbols::Symbols;
 
@@ -57,6 +57,19 @@ pub(crate) fn append_graph<C: CapRep>(
 {
     let reach = Reach::of(alloc, hart)?;
     put_graph(text, symbols, reach.members())
+}
+
+/// Appends the same as objects of JSON, one a line.
+pub(crate) fn append_objects<C: CapRep>(
+    text: &mut String,
+    alloc: Global,
+    symbols: &Symbols,
+    hart: &Hart<C>,
+) -> Result<(), AllocError>
+    ensures { OnOk result (string_bytes text.new ≡ string_bytes text.old ++ objects_reply symbols.now hart.now) }
+{
+    let reach = Reach::of(alloc, hart)?;
+    put_objects(text, alloc, symbols, reach.members())
 }
 
 /// Appends whether the code may do something up to the next trap, unsealing or sealed jump, or through doors, and by which chain.

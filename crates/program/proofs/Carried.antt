@@ -26,7 +26,7 @@ low_end Running = omega arith
 -- what was done is 0 or 1
 pub at_most_one : (what : Done) → status_of_done what ≤ 1
 at_most_one done.All = omega arith
-at_most_one (done.Run ended) = low_end ended.end
+at_most_one (done.Run ended json) = low_end ended.end
 at_most_one (done.Audit count) = low (count == 0)
 at_most_one (done.Proof shown) = low shown
 

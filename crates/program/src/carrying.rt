@@ -6,7 +6,8 @@ ghost use Rattle.std.specs.Prelude.{codes, map, IfErr, IfOk, OnOk};
 ghost use Rattle.std.specs.Io.KnownBytes.{Appends};
 ghost use Rattle.image.specs.Devices.{Counts};
 ghost use Rattle.sim_run.specs.Verdict.{status_of as status_of_run};
-ghost use Rattle.program.specs.Carrying.{FailsAs, FailsToCarry, HasStatus, IsCarriedOut, IsNoPlanFault, IsSpared, IsRefused};
+ghost use Rattle.program.specs.Carrying.{FailsAs, FailsToCarry, FailsToRunAs, HasStatus, IsCarriedOut, IsNoPlanFault, IsSpared, IsRefused};
+ghost use Rattle.program.specs.Carrying.{RunsAs};
 ghost use Rattle.program.specs.Carrying.{asks_version, status_of_done, version_line};
 ghost use Rattle.program.specs.Telling.{Tells, done_text, end_text, is_quiet, same_file};
 ghost use Rattle.commands.specs.FaultTexts.{fault_text};
@@ -20,7 +21,8 @@ use crate::debugging::debug_file;
 use command_line::{Plan, PlanFault, RunRequest, plan};
 use commands::{
     Ended, Folder, ProgramFault, assemble_file, audit_file, image_file, list_file, load,
-    overwrites, prove_file, put_fault, run_first, run_loaded, show_bounds, show_word, stop_at,
+    overwrites, prove_file, put_fault, run_first, run_loaded, run_to_object, show_bounds,
+    show_word, stop_at,
 };
 use image::{DeviceFailed, Sink, write_all};
 use sim_run::{StopAt, verdict};
@@ -44,8 +46,8 @@ const VERSION: &str = "cherisim 0.1.0\n";
 enum Done {
     /// All of it.
     All,
-    /// A run that ended so.
-    Run(Ended),
+    /// A run that ended so, and whether an object tells it.
+    Run(Ended, bool),
     /// An audit that found so many parts of rules that are broken.
     Audit(usize),
     /// A proof, and whether it was found.
@@ -72,14 +74,16 @@ fn put_end<E: Sink>(errors: &mut E, line: &str, place: &str) -> Result<(), Devic
     write_all(errors, place.as_bytes())
 }
 
-/// Tells how a run ended, and where; and answers the status.
-fn tell_end<E: Sink>(errors: &mut E, ended: &Ended) -> u8
+/// Tells how a run ended, and where, by lines or by the object that says so; and answers the status.
+fn tell_end<E: Sink>(errors: &mut E, json: bool, ended: &Ended) -> u8
     requires { E.failed errors.old < 2 ^ 64 - 1 }
     ensures status { result ≡ status_of_run ended.now.end }
-    ensures told { Tells (E.failed errors.old) (E.failed errors.new) (E.held errors.old) (E.held errors.new) (end_text ended.now) }
+    ensures told { Tells (E.failed errors.old) (E.failed errors.new) (E.held errors.old) (E.held errors.new) (end_text json ended.now) }
 {
     let (status, line) = verdict(ended.end);
-    if status != 0 {
+    if json {
+        let _ = write_all(errors, ended.place.as_bytes());
+    } else if status != 0 {
         let _ = put_end(errors, line.as_str(), ended.place.as_str());
     }
     status
@@ -133,6 +137,28 @@ fn run_file<'a, F: Folder, O: Write + Drop>(
     }
 }
 
+/// The same; or with `json` runs it whole, for its end to be told as an object.
+fn run_as<'a, F: Folder, O: Write + Drop>(
+    alloc: Global,
+    folder: &mut F,
+    request: RunRequest<'a>,
+    profile: Option<&'a str>,
+    at: Option<StopAt>,
+    json: bool,
+    output: O,
+) -> Result<(Ended, O), ProgramFault<'a>>
+    requires { AreInRange request }
+    ensures ok { IfOk result (λ done. RunsAs json request.entry profile.entry at done.0
+        (changed (O.contents output) (O.contents done.1) (F.files folder.old) (F.files folder.new))) }
+    ensures err { IfErr result (FailsToRunAs json request.entry profile.entry at (F.files folder.old) (F.files folder.new)) }
+{
+    if json {
+        run_to_object(alloc, folder, request, profile, output)
+    } else {
+        run_file(alloc, folder, request, profile, at, output)
+    }
+}
+
 /// Does what the plan says, and hands the output back.
 fn carry_out<'a, F: Folder, I: Read + Drop, O: Write + Drop>(
     alloc: Global,
@@ -150,23 +176,41 @@ fn carry_out<'a, F: Folder, I: Read + Drop, O: Write + Drop>(
     match plan {
         Plan::First => {
             let (ended, output) = run_first(alloc, output)?;
-            Ok((Done::Run(ended), output))
+            Ok((Done::Run(ended, false), output))
         }
         Plan::Go {
             request,
             why,
             profile,
+            json,
         } => {
-            let (ended, output) = run_file(alloc, folder, request, profile, stop_at(why), output)?;
-            Ok((Done::Run(ended), output))
+            let (ended, output) = run_as(
+                alloc,
+                folder,
+                request,
+                profile,
+                stop_at(why),
+                json,
+                output,
+            )?;
+            Ok((Done::Run(ended, json), output))
         }
         Plan::Run {
             request,
             why,
             profile,
+            json,
         } => {
-            let (ended, output) = run_file(alloc, folder, request, profile, stop_at(why), output)?;
-            Ok((Done::Run(ended), output))
+            let (ended, output) = run_as(
+                alloc,
+                folder,
+                request,
+                profile,
+                stop_at(why),
+                json,
+                output,
+            )?;
+            Ok((Done::Run(ended, json), output))
         }
         Plan::Audit(request) => {
             let (count, output) = audit_file(alloc, folder, request, output)?;
@@ -222,12 +266,18 @@ fn carry_out<'a, F: Folder, I: Read + Drop, O: Write + Drop>(
             base,
             length,
             address,
+            json,
         } => {
-            let output = show_bounds(base, length, address, output)?;
+            let output = show_bounds(alloc, base, length, address, json, output)?;
             Ok((Done::All, output))
         }
-        Plan::Word { high, low, memory } => {
-            let output = show_word(high, low, memory, output)?;
+        Plan::Word {
+            high,
+            low,
+            memory,
+            json,
+        } => {
+            let output = show_word(alloc, high, low, memory, json, output)?;
             Ok((Done::All, output))
         }
     }
@@ -241,7 +291,7 @@ fn tell_done<E: Sink>(errors: &mut E, done: &Done) -> u8
 {
     match done {
         Done::All | Done::Audit(0) | Done::Proof(true) => 0,
-        Done::Run(ended) => tell_end(errors, ended),
+        Done::Run(ended, json) => tell_end(errors, *json, ended),
         Done::Audit(_) | Done::Proof(false) => 1,
     }
 }

@@ -1,3 +1,4 @@
 pub mod Text
 pub mod Asked
 pub mod Summary
+pub mod Object

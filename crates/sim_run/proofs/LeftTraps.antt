@@ -30,9 +30,10 @@ use Rattle.sim_run.specs.declared.notes.First.{First}
 use Rattle.sim_run.specs.declared.notes.Last.{Last}
 use Rattle.sim_run.specs.declared.notes.Level.{Level}
 use Rattle.sim_run.specs.declared.notes.Notes.{Notes}
-use Rattle.sim_run.specs.Unhandled.{Open, Trapped, Traps, after_step, gone_on, last_of, level_left, no_traps, opened, trap_left}
-use Rattle.sim_run.specs.Unhandled.{traps_after, unfetched_in}
-use Rattle.sim_run.specs.Watched.{lines_of, trap_in, IsLast, IsOpen, IsTold}
+use Rattle.sim_run.specs.Unhandled.{Open, Trapped, Traps, after_step, gone_on, is_at, is_return, last_of, level_left, no_traps, opened}
+use Rattle.sim_run.specs.Unhandled.{trap_left, traps_after, unfetched_in}
+use Rattle.sim_run.specs.Object.{trap_fields}
+use Rattle.sim_run.specs.Watched.{fields_of, lines_of, trap_in, IsLast, IsOpen, IsTaken, IsTold}
 
 -- ---- plain steps
 
@@ -63,6 +64,9 @@ steps_in-steps zero = refl
 steps_in-steps (suc n) = ap suc (steps_in-steps n)
 
 -- ---- one step
+
+pub same-fault : (f : Fault) (mcause mtval : ℕ) → f.mcause ≡ mcause → f.mtval ≡ mtval → f ≡ record { mcause = mcause; mtval = mtval }
+same-fault f mcause mtval cause value = rw (sym cause, sym value) refl
 
 is-trap-in : (e : Effect CapValue) → is_trap (outcome_of e) ≡ is_some (trap_in e)
 unfolding outcome_of
@@ -108,9 +112,12 @@ module _ (s : State) (running : is_halted s ≡ false) where
   unfolding applied
   cause-left f is = ap (λ (t : State). t.csrs.mcause) (after-trap f is)
 
-  value-left : (f : Fault) → step_effect s ≡ effect.Trap f → (after Step s).csrs.mtval ≡ f.mtval
+  pub value-left : (f : Fault) → step_effect s ≡ effect.Trap f → (after Step s).csrs.mtval ≡ f.mtval
   unfolding applied
   value-left f is = ap (λ (t : State). t.csrs.mtval) (after-trap f is)
+
+  pub is-taken : (f : Fault) (pc : ℕ) → step_effect s ≡ effect.Trap f → pc ≡ pc_of s → IsTaken f pc s
+  is-taken f pc is at = record { mcause = sym (cause-left f is); mtval = sym (value-left f is); place = at }
 
   -- the trap that is taken, as it is told
   pub told-trap : (symbols : List Symbol) (f : Fault) (number : ℕ) → step_effect s ≡ effect.Trap f
@@ -145,31 +152,44 @@ few-still count number (Some a) few = omega (arith, few)
 
 -- ---- the traps that are left, as they are told
 
-pub open-first : (symbols : List Symbol) (number : ℕ) (s : State) (level : Option Level) (found : Option Open) (old new : List ℕ)
-    → IsOpen symbols None old found → level ≡ level_left s → new ≡ trap_words symbols number s
-    → IsOpen symbols (Some (record { number = number; inner = 0; level = level })) new (Some (opened number s found))
-open-first symbols number s level None old new told same is = (refl, refl, same, is)
-open-first symbols number s level (Some one) old new told same is = absurd told
+pub open-first : (symbols : List Symbol) (number : ℕ) (s : State) (level : Option Level) (fault : Fault) (pc : ℕ) (found : Option Open)
+    (old new : List ℕ) → IsOpen symbols None old found → level ≡ level_left s → new ≡ trap_words symbols number s → IsTaken fault pc s
+    → IsOpen symbols (Some (record { number = number; inner = 0; level = level; fault = fault; pc = pc })) new
+    (Some (opened number s found))
+open-first symbols number s level fault pc None old new told same is taken = (refl, refl, same, is, taken)
+open-first symbols number s level fault pc (Some one) old new told same is taken = absurd told
 
 pub open-more : (symbols : List Symbol) (number : ℕ) (s : State) (one : First) (found : Option Open) (words : List ℕ)
     → IsOpen symbols (Some one) words found
-    → IsOpen symbols (Some (record { number = one.number; inner = one.inner + 1; level = one.level })) words
+    → IsOpen symbols
+    (Some (record { number = one.number; inner = one.inner + 1; level = one.level; fault = one.fault; pc = one.pc })) words
     (Some (opened number s found))
 open-more symbols number s one None words told = absurd told
-open-more symbols number s one (Some first) words told = (told.0, ap (λ n. n + 1) told.1, told.2, told.3)
+open-more symbols number s one (Some first) words told = (told.0, ap (λ n. n + 1) told.1, told.2, told.3, told.4)
 
-pub last-first : (symbols : List Symbol) (number : ℕ) (s : State) (found : Option Trapped) (old new : List ℕ)
-    → IsLast symbols None old found → new ≡ trap_words symbols number s
-    → IsLast symbols (Some (record { number = number; unfetched = 0 })) new (Some (last_of number s found))
-last-first symbols number s None old new told is = (refl, refl, is)
-last-first symbols number s (Some one) old new told is = absurd told
+-- a return from the last of several
+pub open-returned : (symbols : List Symbol) (s : State) (one : First) (found : Option Open) (words : List ℕ)
+    → IsOpen symbols (Some one) words found → is_at one.level s ≡ false → is_return (step_effect s) ≡ true → (one.inner == 0) ≡ false
+    → IsOpen symbols
+    (Some (record { number = one.number; inner = one.inner - 1; level = one.level; fault = one.fault; pc = one.pc })) words
+    (gone_on s found)
+open-returned symbols s one None words told away returns some = absurd told
+open-returned symbols s one (Some first) words told away returns some =
+    rw (sym told.2, away, returns, sym told.1, some) (told.0, refl, told.2, told.3, told.4)
+
+pub last-first : (symbols : List Symbol) (number : ℕ) (s : State) (fault : Fault) (pc : ℕ) (found : Option Trapped) (old new : List ℕ)
+    → IsLast symbols None old found → new ≡ trap_words symbols number s → IsTaken fault pc s
+    → IsLast symbols (Some (record { number = number; unfetched = 0; fault = fault; pc = pc })) new (Some (last_of number s found))
+last-first symbols number s fault pc None old new told is taken = (refl, refl, is, taken)
+last-first symbols number s fault pc (Some one) old new told is taken = absurd told
 
 pub last-more : (symbols : List Symbol) (number : ℕ) (s : State) (one : Last) (found : Option Trapped) (words : List ℕ) (m : ℕ)
     → IsLast symbols (Some one) words found → m ≡ one.unfetched + unfetched_in (step_fetched s)
-    → IsLast symbols (Some (record { number = one.number; unfetched = m })) words (Some (last_of number s found))
+    → IsLast symbols (Some (record { number = one.number; unfetched = m; fault = one.fault; pc = one.pc })) words
+    (Some (last_of number s found))
 last-more symbols number s one None words m told is = absurd told
 last-more symbols number s one (Some last) words m told is =
-    (told.0, is ∙ ap (λ k. k + unfetched_in (step_fetched s)) told.1, told.2)
+    (told.0, is ∙ ap (λ k. k + unfetched_in (step_fetched s)) told.1, told.2, told.3)
 
 -- ---- where none is open, and lines
 
@@ -198,6 +218,25 @@ unfolding later_trap
 both-lines symbols first last words later None l s one two = absurd one
 both-lines symbols first last words later (Some f) None s one two = absurd two
 both-lines symbols first last words later (Some f) (Some l) s one two = rw (one.3, two.2, one.0, two.0, two.1) refl
+
+-- what an object says of both
+pub both-fields : (symbols words_of : List Symbol) (first : First) (last : Last) (words later : List ℕ) (f : Option Open)
+    (l : Option Trapped) (s : State) → IsOpen words_of (Some first) words f → IsLast words_of (Some last) later l
+    → trap_fields symbols f l s ≡ fields_of symbols (Some (first, last)) s
+both-fields symbols words_of first last words later None l s one two = absurd one
+both-fields symbols words_of first last words later (Some f) None s one two = absurd two
+both-fields symbols words_of first last words later (Some f) (Some l) s one two =
+    let first_fault : first.fault ≡ record { mcause = (after Step f.before).csrs.mcause; mtval = (after Step f.before).csrs.mtval } =
+    same-fault first.fault _ _ one.4.mcause one.4.mtval in
+    let last_fault : last.fault ≡ record { mcause = (after Step l.before).csrs.mcause; mtval = (after Step l.before).csrs.mtval } =
+    same-fault last.fault _ _ two.3.mcause two.3.mtval in
+    rw (first_fault, last_fault, one.4.place, two.3.place, one.0, two.0, two.1) refl
+
+pub none-fields : (symbols : List Symbol) (first : Option Open) (last : Option Trapped) (s : State) → last ≡ None
+    → trap_fields symbols first last s ≡ fields_of symbols None s
+none-fields symbols None last s none = refl
+none-fields symbols (Some first) None s none = refl
+none-fields symbols (Some first) (Some last) s none = cc
 
 -- after a last step that was no trap
 pub none-lines : (symbols : List Symbol) (first : Option Open) (last : Option Trapped) (s : State) → last ≡ None

@@ -9,7 +9,7 @@ use Rattle.steps.specs.declared.effect.Effect.TheVariants as effect
 use Rattle.steps.specs.Effect.{applied}
 use Rattle.steps.specs.Event.{after, outcome}
 use Rattle.steps.specs.Outcome.{is_trap}
-use Rattle.steps.specs.State.{State}
+use Rattle.steps.specs.State.{State, pc_of}
 use Rattle.steps.specs.Step.{step_effect}
 use Rattle.steps.specs.Steps.{GoesBy}
 use Rattle.special_regs.specs.Traps.{trapped_scrs}
@@ -28,7 +28,7 @@ use Rattle.sim_run.specs.Stopped.{stop_pace, IsOnly, Knows, PassesStops, Searche
 use Rattle.sim_run.specs.Stopping.{first_stop, is_asked, is_stop, up_to_stop}
 use Rattle.sim_run.specs.Unhandled.{Open, Traps, after_step, gone_on, is_at, is_return, level_left, no_traps, opened, returned, traps_after}
 use Rattle.sim_run.specs.Watched.{trap_in, IsOpen}
-use Rattle.sim_run.proofs.LeftTraps.{after-trap, all_handled, none-taken, trap-taken, traps}
+use Rattle.sim_run.proofs.LeftTraps.{after-trap, all_handled, is-taken, none-taken, trap-of, trap-taken, traps}
 
 -- ---- one step
 
@@ -106,17 +106,18 @@ other_passed Double only s other passes = absurd (other refl)
 
 -- a trap where none was open
 pub only-opened : (s : State) (running : is_halted s ≡ false) (f : Fault) (number : ℕ) (left : Traps) (only : Option First)
-    (level : Option Level) → trap_in (step_effect s) ≡ Some f → is_stop Double (is_some only) s ≡ false → IsOnly only left.first
-    → level ≡ level_left s → IsOnly (Some (record { number = 0; inner = 0; level = level })) (after_step number s left).first
+    (level : Option Level) (pc : ℕ) → trap_in (step_effect s) ≡ Some f → is_stop Double (is_some only) s ≡ false
+    → IsOnly only left.first → level ≡ level_left s → pc ≡ pc_of s
+    → IsOnly (Some (record { number = 0; inner = 0; level = level; fault = f; pc = pc })) (after_step number s left).first
 unfolding is_stop
-only-opened s running f number left only level is passes known same =
+only-opened s running f number left only level pc is passes known same at =
     let trapped : is_trap (outcome Step s) ≡ true = traps s running ∙ ap is_some is in
     let none : is_some only ≡ false = rw trapped at passes in
     rw (trap-taken s running number left f is) (go only left.first none known)
   where
     go : (first : Option First) (one : Option Open) → is_some first ≡ false → IsOnly first one
-        → IsOnly (Some (record { number = 0; inner = 0; level = level })) (Some (opened number s one))
-    go None None none known = (same, refl, refl)
+        → IsOnly (Some (record { number = 0; inner = 0; level = level; fault = f; pc = pc })) (Some (opened number s one))
+    go None None none known = (same, refl, refl, is-taken s running f pc (trap-of (step_effect s) f is) at)
     go None (Some one) none known = absurd known
     go (Some first) one none known = cc
 
@@ -143,7 +144,7 @@ only-gone s running number left only now is known told =
     kept first one None words false true alone known = rw alone tt
     kept first one (Some new) words false true alone known = absurd (rw alone at known)
     kept first one None words false false alone known = absurd known
-    kept first one (Some new) words false false alone known = (known.2, known.1 ∙ alone, alone)
+    kept first one (Some new) words false false alone known = (known.2, known.1 ∙ alone, alone, known.4)
 
     go : (first : Option First) (one : Option Open) → IsOnly first one
         → ((symbols : List Symbol) (words : List ℕ) (found : Option Open) → IsOpen symbols first words found
@@ -155,7 +156,7 @@ only-gone s running number left only now is known told =
     go (Some first) (Some one) known told =
         kept first one now (trap_words [] first.number one.before) (is_at (level_left one.before) s) (is_return (step_effect s)) known.2
         (told [] (trap_words [] first.number one.before) (Some (record one { number = first.number }))
-        (refl, known.1 ∙ sym known.2, known.0, refl))
+        (refl, known.1 ∙ sym known.2, known.0, refl, known.3))
 
 -- ---- events, one after the other
 

@@ -3,6 +3,7 @@ pub mod Trace
 pub mod Verdict
 pub mod Unhandled
 pub mod Ending
+pub mod Object
 pub mod Stopping
 pub mod Profile
 -- Inner words

@@ -11,6 +11,7 @@ use Rattle.sim_run.specs.declared.stopping.StopAt.{StopAt}
 use Rattle.sim_run.specs.declared.stopping.StopAt.TheVariants.{Double}
 use Rattle.sim_run.specs.Stopping.{is_stop}
 use Rattle.sim_run.specs.Unhandled.{Open, Traps, after_step, level_left, traps_after}
+use Rattle.sim_run.specs.Watched.{IsTaken}
 
 -- no step among the events, after so many that left these traps, is one to stop before
 abbrev pub PassesStops : StopAt → ℕ → Traps → List Event → State → Type 0
@@ -27,6 +28,7 @@ IsOnly None (Some open_trap) = ⊥
 IsOnly (Some first) None = ⊥
 IsOnly (Some first) (Some open_trap) =
     (first.level ≡ level_left open_trap.before) × (first.inner ≡ 0) × (open_trap.inner ≡ 0)
+    × IsTaken first.fault first.pc open_trap.before
 
 -- where a second trap is looked for, the first is known
 abbrev pub Knows : StopAt → Option First → Traps → Type 0

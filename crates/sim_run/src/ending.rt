@@ -50,7 +50,7 @@ pub(crate) fn mcause<C: CapRep>(machine: &Machine<C>) -> u64
 
 /// What mtval holds.
 #[tactic(auto, unfolding(special_regs::specs::CsrValues::csr_value))]
-fn mtval<C: CapRep>(machine: &Machine<C>) -> u64
+pub(crate) fn mtval<C: CapRep>(machine: &Machine<C>) -> u64
     ensures { result ≡ machine.now.csrs.mtval }
 {
     machine.csr(csr::MTVAL)
@@ -58,7 +58,7 @@ fn mtval<C: CapRep>(machine: &Machine<C>) -> u64
 
 /// MEPCC's address.
 #[tactic(auto, unfolding(special_regs::specs::Scrs::scr_value))]
-fn mepc<C: CapRep>(machine: &Machine<C>) -> u64
+pub(crate) fn mepc<C: CapRep>(machine: &Machine<C>) -> u64
     ensures { result ≡ value_address machine.now.scrs.mepcc }
 {
     machine.scr(scr::MEPCC).address()
@@ -81,7 +81,7 @@ pub(crate) fn pc<C: CapRep>(machine: &Machine<C>) -> u64
 }
 
 /// Whether a trap was taken, by what mcause and mtval hold.
-fn is_trapped(mcause: u64, mtval: u64) -> bool
+pub(crate) fn is_trapped(mcause: u64, mtval: u64) -> bool
     ensures { result ≡ is_trapped mcause mtval }
 {
     !(mcause == 0 && mtval == 0)

@@ -4,6 +4,7 @@
 mod before;
 mod ending;
 mod notes;
+mod object;
 mod profile;
 mod run;
 mod stopping;
@@ -13,6 +14,7 @@ mod unhandled;
 
 pub use before::{count_steps, lines_skipped, run_before, run_traced_before};
 pub use ending::{ending_lines, verdict};
+pub use object::ending_object;
 pub use profile::profile_before;
 pub use run::{Ran, run_counted, run_scheduled};
 pub use stopping::{StopAt, find_stop, stopped_lines, stops_before};

@@ -10,9 +10,9 @@ ghost use Rattle.schedules.specs.Schedule.{is_halted};
 ghost use Rattle.symbols.specs.Symbols.{Symbol};
 ghost use Rattle.sim_run.specs.Unhandled.{after_step, gone_on, is_at, is_return, is_same_level, last_of, level_left, level_of, opened};
 ghost use Rattle.sim_run.specs.Unhandled.{no_traps, unfetched_in, Open, Trapped, Traps};
-ghost use Rattle.sim_run.specs.Watched.{trap_in, AreFew, HasLines, IsLast, IsOpen, IsTold};
+ghost use Rattle.sim_run.specs.Watched.{trap_in, AreFew, HasFields, HasLines, IsLast, IsOpen, IsTold};
 
-use crate::ending::{append_since, append_trap_words};
+use crate::ending::{append_since, append_trap_words, pc};
 use base::{Fault, scr};
 use cap_bounds::CapRep;
 use hart::Planned;
@@ -60,6 +60,10 @@ pub(crate) struct First {
     pub inner: u64,
     /// The level that it left.
     pub level: Option<Level>,
+    /// What it left in mcause and mtval.
+    pub fault: Fault,
+    /// Where it was taken.
+    pub pc: u64,
 }
 
 /// The first trap since the last step that was none.
@@ -69,6 +73,10 @@ pub(crate) struct Last {
     pub number: u64,
     /// How many later steps were traps of the fetch.
     pub unfetched: u64,
+    /// What it left in mcause and mtval.
+    pub fault: Fault,
+    /// Where it was taken.
+    pub pc: u64,
 }
 
 /// What is known of the traps that are left.
@@ -166,6 +174,8 @@ pub(crate) fn gone_on<C: CapRep>(
                 number: one.number,
                 inner: one.inner - 1,
                 level: one.level,
+                fault: one.fault,
+                pc: one.pc,
             })
         }
     }
@@ -194,6 +204,8 @@ fn opened<C: CapRep>(
             number: one.number,
             inner: one.inner + 1,
             level: one.level,
+            fault: one.fault,
+            pc: one.pc,
         }),
         None => {
             words.clear();
@@ -202,6 +214,8 @@ fn opened<C: CapRep>(
                 number,
                 inner: 0,
                 level: level_left(machine),
+                fault,
+                pc: pc(machine),
             })
         }
     }
@@ -229,6 +243,8 @@ fn last_of<C: CapRep>(
         Some(one) => Ok(Last {
             number: one.number,
             unfetched: one.unfetched + unfetched_in(fetched),
+            fault: one.fault,
+            pc: one.pc,
         }),
         None => {
             words.clear();
@@ -236,6 +252,8 @@ fn last_of<C: CapRep>(
             Ok(Last {
                 number,
                 unfetched: 0,
+                fault,
+                pc: pc(machine),
             })
         }
     }
@@ -306,6 +324,16 @@ impl Notes {
             }
         }
         Ok(())
+    }
+
+    /// The first and the last trap of a run that ended with a trap.
+    pub(crate) fn taken(&self) -> Option<(First, Last)>
+        ensures { (symbols : List Symbol) (left : Traps) → IsTold symbols self.now left → HasFields result left }
+    {
+        match (self.first, self.last) {
+            (Some(first), Some(last)) => Some((first, last)),
+            _ => None,
+        }
     }
 
     /// The lines of a run that ended with a trap.

@@ -16,6 +16,7 @@ ghost use Rattle.sim_run.specs.StoppedLaws.{searched_more, searched_none};
 ghost use Rattle.sim_run.specs.Unhandled.{after_step, Traps};
 ghost use Rattle.sim_run.specs.declared.stopping.StopAt.TheVariants.{Double};
 
+use crate::ending::pc;
 use crate::notes::{First, gone_on, level_left, trap_in};
 use base::{Cause, Fault, Size};
 use cap_bounds::CapRep;
@@ -122,10 +123,12 @@ fn open_after<C: CapRep>(
         → IsOnly result (after_step number machine.now left).first }
 {
     match trap_in(planned) {
-        Some(_) => Some(First {
+        Some(fault) => Some(First {
             number: 0,
             inner: 0,
             level: level_left(machine),
+            fault,
+            pc: pc(machine),
         }),
         None => gone_on(machine, planned, only),
     }

@@ -10,11 +10,11 @@ ghost use Rattle.steps.specs.declared.event.Event.TheVariants.{Step};
 ghost use Rattle.machine.specs.Run.{run_after};
 ghost use Rattle.schedules.specs.Schedule.{is_halted, scheduled, IsRunnable};
 ghost use Rattle.sim_run.specs.Unhandled.{trap_left};
-ghost use Rattle.sim_run.specs.Watched.{counted_pace, watching_pace, AreFew, Counted, HasLines, IsTold, Tells};
+ghost use Rattle.sim_run.specs.Watched.{counted_pace, watching_pace, AreFew, Counted, HasFields, HasLines, IsTold, Tells};
 ghost use Rattle.sim_run.specs.WatchedLaws.{counted_more, counted_none, tells_more, tells_none};
 
 use crate::ending::{mcause, mtvec, pc};
-use crate::notes::{First, Notes};
+use crate::notes::{First, Last, Notes};
 use cap_bounds::CapRep;
 use hart::Planned;
 use image::Image;
@@ -164,6 +164,29 @@ fn may_be_trapped<C: CapRep>(machine: &Machine<C>) -> bool
     ensures { result ≡ false → (events : List Event) (s : State) → machine.now ≡ run_after events s → (trap_left events s).last ≡ None }
 {
     is_entry(pc(machine), mtvec(machine), mcause(machine))
+}
+
+/// The first and the last trap that are left by a run of an image on a schedule, which ended with this machine; none if its last step was
+/// no trap. The run is done again only where that may have been one.
+pub(crate) fn traps_taken<C: CapRep>(
+    alloc: Global,
+    symbols: &Symbols,
+    image: &Image,
+    schedule: Schedule,
+    input: &[u8],
+    machine: &Machine<C>,
+) -> Result<Option<(First, Last)>, AllocError>
+    requires range { IsRunnable schedule }
+    requires ended { machine.now ≡ run_after (scheduled schedule input.now (opening image.now)) (opening image.now) }
+    ensures { IfOk result (λ taken. HasFields taken (trap_left (scheduled schedule input.now (opening image.now)) (opening image.now))) }
+{
+    if !may_be_trapped(machine) {
+        return Ok(None);
+    }
+    match Machine::<C>::new(alloc, image) {
+        Ok(mut again) => Ok(watch(alloc, symbols, &mut again, schedule, input)?.taken()),
+        Err(_) => Err(AllocError),
+    }
 }
 
 /// The lines of the traps that are left by a run of an image on a schedule, which ended with this machine; none if its last step was no

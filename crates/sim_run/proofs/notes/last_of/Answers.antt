@@ -3,7 +3,7 @@ use Rattle.std.specs.Prelude.{string_bytes}
 use Rattle.sim_run.specs.Ending.{trap_words}
 use Rattle.sim_run.specs.Unhandled.{unfetched_in}
 use Rattle.sim_run.specs.Watched.{IsLast}
-use Rattle.sim_run.proofs.LeftTraps.{last-first, last-more}
+use Rattle.sim_run.proofs.LeftTraps.{is-taken, last-first, last-more}
 use Rattle.sim_run.proofs.notes.last_of.Goals as goal
 
 pub returns-in-Some-clause-told : goal.returns-in-Some-clause-told
@@ -20,6 +20,7 @@ returns-in_ok-append_trap_words-in-None-clause-told g c = λ found told.
     let symbols = c.args.symbols.now in
     let s = c.args.machine.now in
     let old = string_bytes c.args.words.now in
-    last-first symbols c.args.number s found old (string_bytes c.append_trap_words.new.text)
+    last-first symbols c.args.number s c.args.fault c.pc.result found old (string_bytes c.append_trap_words.new.text)
     (subst (λ o. IsLast symbols o old found) c.in-None.is told)
     (c.in_ok-append_trap_words-in-None.ensures ∙ ap (λ text. text ++ trap_words symbols c.args.number s) c.clear.ensures.bytes)
+    (is-taken s c.requires.running c.args.fault c.pc.result c.requires.traps c.pc.ensures)

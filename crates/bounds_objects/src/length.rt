@@ -1,0 +1,43 @@
+//! The object of a length: what an allocator asks.
+
+ghost use Rattle.std.specs.Prelude.{◌≡◌, ◌+◌, ◌^◌, ◌<◌, ◌≤◌, IfOk, string_bytes};
+ghost use Rattle.bounds_text.specs.LengthText.{whole_length};
+ghost use Rattle.bounds_objects.specs.Length.{length_object as object_of};
+
+use cap_bounds::granule;
+use cap_insns::alignment_mask;
+use objects::{Item, object_line};
+use std::alloc::{AllocError, Global};
+
+/// A length rounded up to what a capability with an aligned base has.
+#[tactic(auto, unfolding(bounds_text::specs::LengthText::whole_length))]
+fn whole_length(length: u64) -> u128
+    ensures value { result ≡ whole_length length }
+    ensures high { length ≤ result }
+    ensures near { result < length + 2 ^ 55 }
+{
+    let granule = granule(length);
+    (u128::from(length) + granule - 1) / granule * granule
+}
+
+/// What an allocator asks of a length, as the line of an object: of the same values as `length_text`.
+///
+/// # Errors
+///
+/// Out of memory.
+#[tactic(auto, unfolding(crate::specs::Length::length_object))]
+pub fn length_object(alloc: Global, length: u64) -> Result<String, AllocError>
+    ensures { IfOk result (λ line. string_bytes line ≡ object_of length) }
+{
+    let rounded = whole_length(length);
+    object_line(
+        alloc,
+        &[
+            Item::Address("length", length),
+            Item::Wide("rounded", rounded),
+            Item::Wide("align", granule(length)),
+            Item::Address("mask", alignment_mask(length)),
+            Item::Wide("padding", rounded - u128::from(length)),
+        ],
+    )
+}

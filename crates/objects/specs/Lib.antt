@@ -1,0 +1,5 @@
+-- What to read
+pub mod Items
+pub mod Places
+-- Laws
+pub mod ItemLaws
