@@ -1,30 +1,20 @@
 -- What setting bounds gives, as an object: the values of its text, without the picture.
-use Rattle.std.specs.Prelude.{ℕ, ◌+◌, ◌-◌, ◌/◌, ◌^◌, false, ◌&&◌, nat_le, nat_lt, if◌then◌else◌, List, [], ◌++◌, Option, Some}
+use Rattle.std.specs.Prelude.{ℕ, ◌+◌, ◌-◌, ◌/◌, ◌^◌, if◌then◌else◌, List, [], ◌++◌, Option, Some}
 use Rattle.std.specs.Prelude.{None, codes, bit_xor}
 use Rattle.json.specs.Token.{Token}
 use Rattle.cap_format.specs.Word.{null_word}
-use Rattle.cap_bounds.specs.Record.{window_holds}
 use Rattle.cap_bounds.specs.CapValue.{is_tagged, word_of, value_base, value_top}
-use Rattle.cap_bounds.specs.Root.{root}
 use Rattle.cap_bounds.specs.Rounding.{rounding_exponent, rounding_granule, rounded_base, rounded_top, is_exact}
-use Rattle.cap_bounds.specs.SetBounds.{bounded}
 use Rattle.cap_bounds.specs.WindowEnds.{window_first, window_last}
 use Rattle.cap_insns.specs.CapabilityRows.{representable_length, alignment_mask}
-use Rattle.bounds_text.specs.BoundsText.{set}
+use Rattle.bounds_text.specs.BoundsText.{set, standing}
 use Rattle.objects.specs.Items.{address_field, null_field, object_field, object_line, text_field, truth_field, wide_field}
 
 -- where an address lies
-unfoldable pub standing_word : ℕ → ℕ → ℕ → List ℕ
-standing_word base length address =
-    let v = set base length in
-    if nat_le (value_base v) address && nat_lt address (value_top v) then codes "in bounds"
-    else if window_holds (bounded (root base false) length) address then codes "in the window"
-    else codes "outside"
-
 unfoldable pub address_fields : ℕ → ℕ → Option ℕ → List Token
 address_fields base length None = null_field (codes "address") ++ null_field (codes "lies")
 address_fields base length (Some address) =
-    address_field (codes "address") address ++ text_field (codes "lies") (standing_word base length address)
+    address_field (codes "address") address ++ text_field (codes "lies") (standing base length address)
 
 -- the lowest 64 bits of two numbers, as the halves of a word, or as the first and the last address of a window
 abbrev pub pair_field : List ℕ → List ℕ → ℕ → List ℕ → ℕ → List Token

@@ -1,7 +1,6 @@
 -- What the word of a capability means, as an object: its two forms, whether it may be tagged, and what its fields say.
-use Rattle.std.specs.Prelude.{◌≡◌, ℕ, ◌/◌, ◌^◌, ◌==◌, ◌↔◌, Bool, IsTrue, if◌then◌else◌, List, ◌++◌, codes, bit_xor}
+use Rattle.std.specs.Prelude.{◌≡◌, ℕ, ◌/◌, ◌^◌, ◌↔◌, Bool, IsTrue, List, ◌++◌, codes, bit_xor}
 use Rattle.json.specs.Token.{Token}
-use Rattle.base.specs.ObjectType.{is_reserved, sentry_type, unsealed_type}
 use Rattle.cap_format.specs.Word.{address_of, b_field_of, flag_of, ie_of, null_word, otype_of, perms_of, t_field_of}
 use Rattle.cap_bounds.specs.Mantissa.{exponent_of}
 use Rattle.cap_bounds.specs.Record.{IsWordWellFormed}
@@ -9,16 +8,17 @@ use Rattle.cap_bounds.specs.Window.{base_of_word, top_of_word}
 use Rattle.cap_bounds.specs.WindowEnds.{window_first, window_last}
 use Rattle.cap_rights.specs.Perms.{hardware_view}
 use Rattle.bounds_text.specs.Letters.{permission_letters}
-use Rattle.bounds_text.specs.WordText.{bytes_between}
+use Rattle.bounds_text.specs.WordText.{bytes_between, sealing_of}
+use Rattle.bounds_text.specs.declared.word.Sealing.{Sealing}
+use Rattle.bounds_text.specs.declared.word.Sealing.TheVariants.{Unsealed, Sentry, Reserved, Sealed}
 use Rattle.objects.specs.Items.{address_field, number_field, object_line, text_field, truth_field, wide_field}
 use Rattle.bounds_objects.specs.Bounds.{pair_field}
 
-unfoldable pub type_word : ℕ → List ℕ
-type_word otype =
-    if otype == unsealed_type then codes "unsealed"
-    else if otype == sentry_type then codes "sentry"
-    else if is_reserved otype then codes "reserved"
-    else codes "sealed"
+abbrev pub sealing_word : Sealing → List ℕ
+sealing_word Unsealed = codes "unsealed"
+sealing_word Sentry = codes "sentry"
+sealing_word Reserved = codes "reserved"
+sealing_word Sealed = codes "sealed"
 
 -- the halves of both forms, the upper one first
 abbrev pub halves_field : List ℕ → ℕ → List Token
@@ -38,7 +38,7 @@ unfoldable pub right_fields : ℕ → List Token
 right_fields word =
     wide_field (codes "length") (bytes_between (base_of_word word) (top_of_word word))
     ++ number_field (codes "perms") (hardware_view (perms_of word)) ++ text_field (codes "letters") (permission_letters (perms_of word))
-    ++ number_field (codes "otype") (otype_of word) ++ text_field (codes "sealing") (type_word (otype_of word))
+    ++ number_field (codes "otype") (otype_of word) ++ text_field (codes "sealing") (sealing_word (sealing_of (otype_of word)))
 
 -- the flag; the fields that the bounds are encoded by, and the exponent that they say
 unfoldable pub encoding_fields : ℕ → List Token

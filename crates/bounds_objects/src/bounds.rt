@@ -5,7 +5,7 @@ ghost use Rattle.bounds_objects.specs.Bounds.{rounding_fields, stored_field, win
 ghost use Rattle.bounds_objects.specs.Bounds.{address_fields, asked_field, bounds_object as object_of, given_fields, request_fields};
 
 use crate::pair::put_pair;
-use crate::request::Request;
+use bounds_text::Request;
 use cap_bounds::{CapRep, is_exact};
 use cap_format::CapWord;
 use cap_insns::{alignment_mask, representable_length};

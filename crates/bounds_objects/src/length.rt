@@ -1,24 +1,13 @@
 //! The object of a length: what an allocator asks.
 
-ghost use Rattle.std.specs.Prelude.{◌≡◌, ◌+◌, ◌^◌, ◌<◌, ◌≤◌, IfOk, string_bytes};
-ghost use Rattle.bounds_text.specs.LengthText.{whole_length};
+ghost use Rattle.std.specs.Prelude.{◌≡◌, IfOk, string_bytes};
 ghost use Rattle.bounds_objects.specs.Length.{length_object as object_of};
 
+use bounds_text::whole_length;
 use cap_bounds::granule;
 use cap_insns::alignment_mask;
 use objects::{Item, object_line};
 use std::alloc::{AllocError, Global};
-
-/// A length rounded up to what a capability with an aligned base has.
-#[tactic(auto, unfolding(bounds_text::specs::LengthText::whole_length))]
-fn whole_length(length: u64) -> u128
-    ensures value { result ≡ whole_length length }
-    ensures high { length ≤ result }
-    ensures near { result < length + 2 ^ 55 }
-{
-    let granule = granule(length);
-    (u128::from(length) + granule - 1) / granule * granule
-}
 
 /// What an allocator asks of a length, as the line of an object: of the same values as `length_text`.
 ///

@@ -4,7 +4,6 @@
 mod bounds;
 mod length;
 mod pair;
-mod request;
 mod value;
 mod word;
 

@@ -3,8 +3,8 @@
 ghost use Rattle.std.specs.Prelude.{◌≡◌, ◌++◌, OnOk};
 ghost use Rattle.bounds_objects.specs.Value.{bound_fields, kind_fields, value_field};
 
-use crate::word::type_word;
-use bounds_text::permission_letters;
+use crate::word::sealing_word;
+use bounds_text::{permission_letters, sealing_of};
 use cap_bounds::CapRep;
 use cap_rights::Perms;
 use objects::{Item, Writer, put};
@@ -43,7 +43,7 @@ fn put_kind<C: CapRep>(object: &mut Writer, cap: C) -> Result<(), AllocError>
             Item::Text("letters", letters.as_str()),
             Item::Truth("flag", cap.flag()),
             Item::Number("otype", u64::from(otype)),
-            Item::Text("sealing", type_word(otype)),
+            Item::Text("sealing", sealing_word(sealing_of(otype))),
         ],
     )
 }

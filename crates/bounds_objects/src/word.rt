@@ -4,32 +4,26 @@ ghost use Rattle.std.specs.Prelude.{◌≡◌, ◌++◌, IfOk, OnOk, string_byte
 ghost use Rattle.cap_bounds.specs.Mantissa.{exponent_of};
 ghost use Rattle.cap_bounds.specs.Window.{base_of_word, top_of_word};
 ghost use Rattle.bounds_text.specs.WordText.{bytes_between, word_of_halves};
-ghost use Rattle.bounds_objects.specs.Word.{right_fields, type_word};
+ghost use Rattle.bounds_objects.specs.Word.{right_fields, sealing_word};
 ghost use Rattle.bounds_objects.specs.Word.{IsObjectOfWord, encoding_fields, field_fields, form_fields, half_fields, place_fields};
 
 use crate::pair::put_pair;
-use base::otype;
-use bounds_text::permission_letters;
+use bounds_text::{Decoded, Sealing, permission_letters, sealing_of};
 use cap_bounds::{CapRep, Window};
 use cap_format::CapWord;
 use cap_rights::Perms;
 use objects::{Item, Writer, begin, finish, put};
 use std::alloc::{AllocError, Global};
-use word_cap::is_well_formed;
 
-/// What is said of an object type.
-#[tactic(auto, unfolding(crate::specs::Word::type_word))]
-pub(crate) fn type_word<'a>(otype: u32) -> &'a str
-    ensures { result.now ≡ type_word otype }
+/// The word for what an object type says.
+pub(crate) fn sealing_word<'a>(sealing: Sealing) -> &'a str
+    ensures { result.now ≡ sealing_word sealing }
 {
-    if otype == otype::UNSEALED {
-        "unsealed"
-    } else if otype == otype::SENTRY {
-        "sentry"
-    } else if otype::FIRST_RESERVED <= otype {
-        "reserved"
-    } else {
-        "sealed"
+    match sealing {
+        Sealing::Unsealed => "unsealed",
+        Sealing::Sentry => "sentry",
+        Sealing::Reserved => "reserved",
+        Sealing::Sealed => "sealed",
     }
 }
 
@@ -51,10 +45,10 @@ fn put_bounds(
     object: &mut Writer,
     word: CapWord,
     well_formed: bool,
-    low: u64,
+    base: u64,
     top: u128,
 ) -> Result<(), AllocError>
-    requires base { low ≡ base_of_word word }
+    requires base { base ≡ base_of_word word }
     requires top { top ≡ top_of_word word }
     ensures tokens { OnOk result (object.new.tokens ≡ object.old.tokens ++ place_fields well_formed word) }
     ensures alone { object.new.before ≡ object.old.before }
@@ -64,7 +58,7 @@ fn put_bounds(
         &[
             Item::Truth("well_formed", well_formed),
             Item::Address("address", word.address()),
-            Item::Address("base", low),
+            Item::Address("base", base),
             Item::Wide("top", top),
         ],
     )
@@ -87,7 +81,7 @@ fn put_rights(object: &mut Writer, word: CapWord, length: u128) -> Result<(), Al
             Item::Number("perms", u64::from(Perms { bits: perms }.hardware())),
             Item::Text("letters", letters.as_str()),
             Item::Number("otype", u64::from(otype)),
-            Item::Text("sealing", type_word(otype)),
+            Item::Text("sealing", sealing_word(sealing_of(otype))),
         ],
     )
 }
@@ -117,27 +111,32 @@ fn put_form(
     object: &mut Writer,
     word: CapWord,
     well_formed: bool,
-    low: u64,
+    base: u64,
     top: u128,
 ) -> Result<(), AllocError>
-    requires base { low ≡ base_of_word word }
+    requires base { base ≡ base_of_word word }
     requires top { top ≡ top_of_word word }
     ensures tokens { OnOk result (object.new.tokens ≡ object.old.tokens ++ form_fields well_formed word) }
     ensures alone { object.new.before ≡ object.old.before }
 {
     put_halves(object, word)?;
-    put_bounds(object, word, well_formed, low, top)
+    put_bounds(object, word, well_formed, base, top)
 }
 
 /// Says how many bytes lie between a word's bounds, its fields and the window of its bounds.
 #[tactic(auto, unfolding(crate::specs::Word::field_fields), using(objects::specs::ItemLaws::said_three))]
-fn put_fields(object: &mut Writer, word: CapWord, low: u64, length: u128) -> Result<(), AllocError>
-    requires base { low ≡ base_of_word word }
+fn put_fields(
+    object: &mut Writer,
+    word: CapWord,
+    length: u128,
+    window: Window,
+) -> Result<(), AllocError>
+    requires base { window.base ≡ base_of_word word }
+    requires exponent { window.e ≡ exponent_of word }
     requires length { length ≡ bytes_between (base_of_word word) (top_of_word word) }
     ensures tokens { OnOk result (object.new.tokens ≡ object.old.tokens ++ field_fields word) }
     ensures alone { object.new.before ≡ object.old.before }
 {
-    let window = Window::of(word, low);
     let first = u128::from(window.first());
     let last = u128::from(window.last());
     put_rights(object, word, length)?;
@@ -159,14 +158,11 @@ pub fn word_object<C: CapRep>(
 ) -> Result<String, AllocError>
     ensures { IfOk result (λ line. IsObjectOfWord (word_of_halves high low memory) (string_bytes line)) }
 {
-    let halves = u128::from(high) << 64 | u128::from(low);
-    let mask = if memory { CapWord::NULL.logical() } else { 0 };
-    let word = CapWord::from_logical(halves ^ mask);
-    let bits = C::from_word(word, false);
-    let (low, top) = (bits.base(), bits.top());
-    let length = (top + (1 << 65) - u128::from(low)) % (1 << 65);
+    let decoded = Decoded::of::<C>(high, low, memory);
+    let (word, well_formed, window) = (decoded.word, decoded.well_formed, decoded.window);
+    let (base, top, length) = (window.base, decoded.top, decoded.length);
     let mut object = begin(alloc)?;
-    put_form(&mut object, word, is_well_formed(word), low, top)?;
-    put_fields(&mut object, word, low, length)?;
+    put_form(&mut object, word, well_formed, base, top)?;
+    put_fields(&mut object, word, length, window)?;
     finish(object)
 }

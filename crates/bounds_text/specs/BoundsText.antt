@@ -21,14 +21,15 @@ set base length = with_bounds (root base false) length
 unfoldable pub standing : ℕ → ℕ → ℕ → List ℕ
 standing base length address =
     let v = set base length in
-    if nat_le (value_base v) address && nat_lt address (value_top v) then codes " in bounds\n"
-    else if window_holds (bounded (root base false) length) address then codes " in the window\n"
-    else codes " outside\n"
+    if nat_le (value_base v) address && nat_lt address (value_top v) then codes "in bounds"
+    else if window_holds (bounded (root base false) length) address then codes "in the window"
+    else codes "outside"
 
 -- nothing where no address is asked for
 abbrev pub address_line : ℕ → ℕ → Option ℕ → List ℕ
 address_line base length None = []
-address_line base length (Some address) = codes "address  " ++ hex_of 16 address ++ standing base length address
+address_line base length (Some address) =
+    codes "address  " ++ hex_of 16 address ++ codes " " ++ standing base length address ++ codes "\n"
 
 -- the columns that the bounds take
 abbrev pub span_of : ℕ → ℕ → Span

@@ -10,6 +10,8 @@ use Rattle.cap_rights.specs.Perms.{hardware_view}
 use Rattle.texts.specs.Hex.{hex_of}
 use Rattle.bounds_text.specs.Letters.{permission_letters}
 use Rattle.cap_bounds.specs.WindowEnds.{window_first, window_last}
+use Rattle.bounds_text.specs.declared.word.Sealing.{Sealing}
+use Rattle.bounds_text.specs.declared.word.Sealing.TheVariants.{Unsealed, Sentry, Reserved, Sealed}
 
 -- the word that two halves are, the upper one first: in logical form, or as it stands in memory
 abbrev pub word_of_halves : ℕ → ℕ → Bool → ℕ
@@ -19,12 +21,16 @@ word_of_halves high low memory = if memory then bit_xor (high * 2 ^ 64 + low) nu
 abbrev pub bytes_between : ℕ → ℕ → ℕ
 bytes_between base top = (top + 2 ^ 65 - base) % 2 ^ 65
 
-unfoldable pub type_words : ℕ → List ℕ
-type_words otype =
-    if otype == unsealed_type then codes " unsealed\n"
-    else if otype == sentry_type then codes " sentry\n"
-    else if is_reserved otype then codes " sealed, reserved\n"
-    else codes " sealed\n"
+-- what an object type says
+unfoldable pub sealing_of : ℕ → Sealing
+sealing_of otype =
+    if otype == unsealed_type then Unsealed else if otype == sentry_type then Sentry else if is_reserved otype then Reserved else Sealed
+
+abbrev pub sealing_text : Sealing → List ℕ
+sealing_text Unsealed = codes " unsealed\n"
+sealing_text Sentry = codes " sentry\n"
+sealing_text Reserved = codes " sealed, reserved\n"
+sealing_text Sealed = codes " sealed\n"
 
 -- the halves of both forms, the upper one first; whether the word may be tagged; its address and its bounds, the top modulo 2 ^ 65
 unfoldable pub form_lines : Bool → ℕ → List ℕ
@@ -44,7 +50,7 @@ field_lines word =
     let base = base_of_word word in
     codes "length   " ++ decimal (bytes_between base (top_of_word word))
     ++ codes "\nperms    " ++ hex_of 5 (hardware_view (perms_of word)) ++ codes " " ++ permission_letters (perms_of word)
-    ++ codes "\notype    " ++ hex_of 5 (otype_of word) ++ type_words (otype_of word)
+    ++ codes "\notype    " ++ hex_of 5 (otype_of word) ++ sealing_text (sealing_of (otype_of word))
     ++ (if flag_of word then codes "flag     1\n" else codes "flag     0\n")
     ++ (if ie_of word then codes "encoding IE 1 T " else codes "encoding IE 0 T ") ++ hex_of 3 (t_field_of word)
     ++ codes " B " ++ hex_of 4 (b_field_of word) ++ codes ", exponent " ++ decimal e

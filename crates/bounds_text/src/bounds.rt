@@ -1,92 +1,20 @@
 //! The text of a request: what CSetBounds makes of root.
 
-ghost use Rattle.std.specs.Prelude.{◌≡◌, ◌+◌, ◌-◌, ◌^◌, ◌≤◌, ◌++◌, true, false, IsTrue, length as bytes_of};
+ghost use Rattle.std.specs.Prelude.{◌≡◌, ◌≤◌, ◌++◌, true};
 ghost use Rattle.arrayvec.specs.ArrayString.{array_string_len};
-ghost use Rattle.cap_bounds.specs.CapValue.{is_tagged, value_top, word_of};
-ghost use Rattle.cap_bounds.specs.Root.{root};
-ghost use Rattle.cap_bounds.specs.Rounding.{rounded_base, rounded_top, rounding_exponent, rounding_granule};
-ghost use Rattle.cap_bounds.specs.SetBounds.{HasRoundedBounds};
 ghost use Rattle.bounds_text.specs.BoundsText.{address_line, bounds_text as whole_text};
-ghost use Rattle.bounds_text.specs.BoundsText.{request_lines, set, span_of, standing, window_lines};
+ghost use Rattle.bounds_text.specs.BoundsText.{request_lines, span_of, window_lines};
 
 use crate::either;
+use crate::request::Request;
 use crate::window::{Span, column_of, column_size, picture};
 use arrayvec::ArrayString;
-use cap_bounds::{CapRep, Window, is_exact};
+use cap_bounds::{CapRep, is_exact};
 use cap_format::CapWord;
 use cap_insns::{alignment_mask, representable_length};
 use texts::{fill, pieces, text};
 
-/// Root with an address, in integer mode.
-fn root_at<C: CapRep>(address: u64) -> C
-    ensures { C.value result ≡ root address false }
-{
-    C::from_word(CapWord::ROOT.with_flag(false).with_address(address), true)
-}
-
-/// The request for `length` bytes from `base`, and what CSetBounds makes of root for it.
-#[derive(Clone, Copy)]
-struct Request {
-    base: u64,
-    length: u64,
-    tag: bool,
-    logical: u128,
-    /// The rounded top, modulo `2^65`; the rounded base is that of the window.
-    top: u128,
-    window: Window,
-    ghost tagged: { tag ≡ is_tagged (set base length) },
-    ghost word: { logical ≡ word_of (set base length) },
-    ghost low: { window.base ≡ rounded_base base (base + length) },
-    ghost high: { top ≡ value_top (set base length) },
-    ghost within: { IsTrue (is_tagged (set base length)) → top ≤ 2 ^ 64 },
-    ghost rounded: { HasRoundedBounds (root base false) length (set base length) },
-    ghost exponent: { window.e ≡ rounding_exponent base (base + length) },
-}
-
 impl Request {
-    #[tactic(auto, using(crate::proofs::SetBounds::exponent_of_set))]
-    fn of<C: CapRep>(base: u64, length: u64) -> Request
-        ensures base { result.base ≡ base }
-        ensures length { result.length ≡ length }
-    {
-        let (capability, _) = root_at::<C>(base).set_bounds(length);
-        Request {
-            base,
-            length,
-            tag: capability.tag(),
-            logical: capability.word().logical(),
-            top: capability.top(),
-            window: Window::of(capability.word(), capability.base()),
-        }
-    }
-
-    /// Where it ends.
-    fn end(self) -> u128
-        ensures { result ≡ self.base + self.length }
-    {
-        u128::from(self.base) + u128::from(self.length)
-    }
-
-    /// What it is rounded out to multiples of.
-    #[tactic(auto, unfolding(cap_bounds::specs::Rounding::rounding_granule))]
-    fn granule(self) -> u64
-        ensures { result ≡ rounding_granule self.base (self.base + self.length) }
-    {
-        if self.length < 4096 {
-            1
-        } else {
-            1 << (self.window.e + 3)
-        }
-    }
-
-    /// How many bytes rounding adds above its end.
-    #[tactic(auto, using(crate::proofs::SetBounds::added_found, crate::proofs::SetBounds::added_few))]
-    fn added_above(self) -> u64
-        ensures { result ≡ rounded_top self.base (self.base + self.length) - (self.base + self.length) }
-    {
-        ((self.top + (1 << 65) - self.end()) % (1 << 65)) as u64
-    }
-
     /// The lines of every request.
     #[tactic(auto, unfolding(crate::specs::BoundsText::request_lines), using(crate::proofs::SetBounds::base_low))]
     fn lines(self) -> crate::Text
@@ -107,23 +35,6 @@ impl Request {
             "\ncram     " Address(alignment_mask(self.length))
             "\nword     " Hexadecimal(16, stored) " " Hexadecimal(16, stored >> 64) "\n"
         ])
-    }
-
-    /// Where an address lies.
-    #[tactic(auto, unfolding(crate::specs::BoundsText::standing), using(crate::proofs::SetBounds::tried_by_place))]
-    fn standing(self, address: u64) -> &'static str
-        requires { self.tag ≡ true }
-        ensures text { result.now ≡ standing self.base self.length address }
-        ensures short { bytes_of result.now ≤ 20 }
-    {
-        let window = self.window;
-        if window.base <= address && u128::from(address) < self.top {
-            " in bounds\n"
-        } else if window.place(address) <= window.place(window.last()) {
-            " in the window\n"
-        } else {
-            " outside\n"
-        }
     }
 
     /// The columns that the bounds take.
@@ -150,7 +61,7 @@ impl Request {
     {
         match address {
             Some(address) => text(
-                &pieces!["address  " Address(address) Text(self.standing(address))],
+                &pieces!["address  " Address(address) " " Text(self.standing(address)) "\n"],
             ),
             None => ArrayString::new(),
         }

@@ -7,9 +7,9 @@ use cap_bounds::granule;
 use cap_insns::alignment_mask;
 use texts::{pieces, text};
 
-/// A length rounded up to what a capability with an aligned base has.
+/// A length rounded up to what a capability with an aligned base has, fewer than `2^55` bytes more.
 #[tactic(auto, unfolding(crate::specs::LengthText::whole_length))]
-fn whole_length(length: u64) -> u128
+pub fn whole_length(length: u64) -> u128
     ensures value { result ≡ whole_length length }
     ensures high { length ≤ result }
     ensures near { result < length + 2 ^ 55 }

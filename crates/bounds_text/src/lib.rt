@@ -5,13 +5,15 @@ ghost use Rattle.std.specs.Prelude.{◌≡◌, ◌+◌, ◌≤◌, if◌then◌e
 
 mod bounds;
 mod length;
+mod request;
 mod window;
 mod word;
 
 use arrayvec::ArrayString;
 pub use bounds::bounds_text;
-pub use length::length_text;
-pub use word::{permission_letters, word_text};
+pub use length::{length_text, whole_length};
+pub use request::Request;
+pub use word::{Decoded, Sealing, permission_letters, sealing_of, word_text};
 
 /// A text: at most 13 lines of at most 80 bytes.
 pub type Text = ArrayString<1040>;

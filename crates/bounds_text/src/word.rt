@@ -1,9 +1,12 @@
 //! The text of a capability's word, and permissions as letters.
-ghost use Rattle.std.specs.Prelude.{◌≡◌, ◌+◌, ◌-◌, ◌%◌, ◌^◌, ◌<◌, ◌≤◌, ◌++◌, length};
+
+ghost use Rattle.std.specs.Prelude.{◌≡◌, ◌↔◌, ◌<◌, ◌≤◌, ◌++◌, IsTrue, length};
 ghost use Rattle.arrayvec.specs.ArrayString.{array_string_len};
+ghost use Rattle.cap_bounds.specs.Mantissa.{exponent_of};
+ghost use Rattle.cap_bounds.specs.Record.{IsWordWellFormed};
 ghost use Rattle.cap_bounds.specs.Window.{base_of_word, top_of_word};
 ghost use Rattle.bounds_text.specs.Letters.{letter, permission_letters};
-ghost use Rattle.bounds_text.specs.WordText.{ShowsWord, bytes_between, field_lines, form_lines, type_words, word_of_halves};
+ghost use Rattle.bounds_text.specs.WordText.{ShowsWord, bytes_between, field_lines, form_lines, sealing_of, sealing_text, word_of_halves};
 
 use crate::either;
 use arrayvec::ArrayString;
@@ -39,61 +42,126 @@ pub fn permission_letters(perms: u16) -> ArrayString<12>
     ])
 }
 
-/// What is said of an object type.
-#[tactic(auto, unfolding(crate::specs::WordText::type_words))]
-fn type_words<'a>(otype: u32) -> &'a str
-    ensures text { result.now ≡ type_words otype }
-    ensures short { length result.now ≤ 20 }
+/// How a capability with an object type may be used (UCAM-CL-TR-987, sealed capabilities).
+#[derive(Clone, Copy, Debug)]
+pub enum Sealing {
+    /// As its permissions say.
+    Unsealed,
+    /// It is a sentry, which a jump unseals.
+    Sentry,
+    /// It is sealed with a reserved type that has no meaning.
+    Reserved,
+    /// It is sealed with a type of its own.
+    Sealed,
+}
+
+/// What an object type says.
+#[tactic(auto, unfolding(crate::specs::WordText::sealing_of))]
+pub fn sealing_of(otype: u32) -> Sealing
+    ensures { result ≡ sealing_of otype }
 {
     if otype == otype::UNSEALED {
-        " unsealed\n"
+        Sealing::Unsealed
     } else if otype == otype::SENTRY {
-        " sentry\n"
+        Sealing::Sentry
     } else if otype::FIRST_RESERVED <= otype {
-        " sealed, reserved\n"
+        Sealing::Reserved
     } else {
-        " sealed\n"
+        Sealing::Sealed
+    }
+}
+
+/// The end of the line of an object type.
+fn sealing_text<'a>(sealing: Sealing) -> &'a str
+    ensures text { result.now ≡ sealing_text sealing }
+    ensures short { length result.now ≤ 20 }
+{
+    match sealing {
+        Sealing::Unsealed => " unsealed\n",
+        Sealing::Sentry => " sentry\n",
+        Sealing::Reserved => " sealed, reserved\n",
+        Sealing::Sealed => " sealed\n",
+    }
+}
+
+/// A capability's word, and what its fields say: of these values both its text and its object are made.
+#[derive(Clone, Copy)]
+pub struct Decoded {
+    /// The word.
+    pub word: CapWord,
+    /// Whether it may be tagged.
+    pub well_formed: bool,
+    /// The top of its bounds, modulo `2^65`; the base is that of the window.
+    pub top: u128,
+    /// How many bytes lie between its bounds, modulo `2^65`.
+    pub length: u128,
+    /// The window of its bounds, of those of a word that may be tagged.
+    pub window: Window,
+    ghost formed: { IsTrue well_formed ↔ IsWordWellFormed word },
+    ghost high: { top ≡ top_of_word word },
+    ghost between: { length ≡ bytes_between (base_of_word word) (top_of_word word) },
+    ghost low: { window.base ≡ base_of_word word },
+    ghost exponent: { window.e ≡ exponent_of word },
+}
+
+impl Decoded {
+    /// The word of these halves, of its logical form, or with `memory` of that which stands in memory.
+    pub fn of<C: CapRep>(high: u64, low: u64, memory: bool) -> Decoded
+        ensures { result.word ≡ word_of_halves high low memory }
+    {
+        let halves = u128::from(high) << 64 | u128::from(low);
+        let mask = if memory { CapWord::NULL.logical() } else { 0 };
+        let word = CapWord::from_logical(halves ^ mask);
+        let bits = C::from_word(word, false);
+        let (base, top) = (bits.base(), bits.top());
+        Decoded {
+            word,
+            well_formed: is_well_formed(word),
+            top,
+            length: (top + (1 << 65) - u128::from(base)) % (1 << 65),
+            window: Window::of(word, base),
+        }
     }
 }
 
 /// The halves of a word, whether it may be tagged, its address and its bounds.
 #[tactic(auto, unfolding(crate::specs::WordText::form_lines))]
-fn form_text(word: CapWord, well_formed: bool, low: u64, top: u128) -> crate::Text
-    requires base { low ≡ base_of_word word }
-    requires top { top ≡ top_of_word word }
-    ensures text { result.bytes ≡ form_lines well_formed word }
+fn form_text(decoded: Decoded) -> crate::Text
+    ensures text { result.bytes ≡ form_lines decoded.well_formed decoded.word }
     ensures within { array_string_len result ≤ 480 }
 {
+    let word = decoded.word;
     let logical = word.logical();
     let stored = logical ^ CapWord::NULL.logical();
     let tag = either(
-        well_formed,
+        decoded.well_formed,
         "\ntag      0 or 1\n",
         "\ntag      0, as the word is malformed\n",
     );
     text(&pieces![
         "logical  " Hexadecimal(16, logical >> 64) " " Hexadecimal(16, logical)
         "\nmemory   " Hexadecimal(16, stored >> 64) " " Hexadecimal(16, stored) Text(tag)
-        "address  " Address(word.address()) "\nbounds   " Address(low) " " Hexadecimal(17, top) "\n"
+        "address  " Address(word.address()) "\nbounds   " Address(decoded.window.base) " "
+        Hexadecimal(17, decoded.top) "\n"
     ])
 }
 
 /// Appends how many bytes lie between a word's bounds, its fields and the window of its bounds.
 #[tactic(auto, unfolding(crate::specs::WordText::field_lines))]
-fn append_fields(text: &mut crate::Text, word: CapWord, low: u64, length: u128)
+fn append_fields(text: &mut crate::Text, word: CapWord, length: u128, window: Window)
     requires room { array_string_len text.old ≤ 480 }
-    requires base { low ≡ base_of_word word }
-    requires length { length ≡ bytes_between low (top_of_word word) }
+    requires length { length ≡ bytes_between window.base (top_of_word word) }
+    requires base { window.base ≡ base_of_word word }
+    requires exponent { window.e ≡ exponent_of word }
     ensures { text.new.bytes ≡ text.old.bytes ++ field_lines word }
 {
-    let window = Window::of(word, low);
     let perms = word.perms();
     let letters = permission_letters(perms);
     let otype = word.otype();
     let fields = pieces![
         "length   " WideDecimal(length)
         "\nperms    " Hexadecimal(5, u128::from(Perms { bits: perms }.hardware())) " " Text(letters.as_str())
-        "\notype    " Hexadecimal(5, u128::from(otype)) Text(type_words(otype))
+        "\notype    " Hexadecimal(5, u128::from(otype)) Text(sealing_text(sealing_of(otype)))
         Text(either(word.flag(), "flag     1\n", "flag     0\n"))
         Text(either(word.ie(), "encoding IE 1 T ", "encoding IE 0 T ")) Hexadecimal(3, u128::from(word.t_field()))
         " B " Hexadecimal(4, u128::from(word.b_field())) ", exponent " Decimal(u64::from(window.e))
@@ -114,13 +182,9 @@ fn append_fields(text: &mut crate::Text, word: CapWord, low: u64, length: u128)
 pub fn word_text<C: CapRep>(high: u64, low: u64, memory: bool) -> crate::Text
     ensures { ShowsWord (word_of_halves high low memory) result.bytes }
 {
-    let halves = u128::from(high) << 64 | u128::from(low);
-    let mask = if memory { CapWord::NULL.logical() } else { 0 };
-    let word = CapWord::from_logical(halves ^ mask);
-    let bits = C::from_word(word, false);
-    let (low, top) = (bits.base(), bits.top());
-    let mut text = form_text(word, is_well_formed(word), low, top);
-    let length = (top + (1 << 65) - u128::from(low)) % (1 << 65);
-    append_fields(&mut text, word, low, length);
+    let decoded = Decoded::of::<C>(high, low, memory);
+    let (word, length, window) = (decoded.word, decoded.length, decoded.window);
+    let mut text = form_text(decoded);
+    append_fields(&mut text, word, length, window);
     text
 }

@@ -16,7 +16,7 @@ returns-clause-tokens c =
     ++ (truth_field (codes "well_formed") c.args.well_formed ++ address_field (codes "address") address
     ++ address_field (codes "base") base ++ wide_field (codes "top") top) in
     on_ok_weaker c.put.result
-    (λ e. e ∙ ap (λ address. said address c.args.low c.args.top) c.address.ensures
+    (λ e. e ∙ ap (λ address. said address c.args.base c.args.top) c.address.ensures
     ∙ ap (λ base. said (address_of word) base c.args.top) c.requires.base
     ∙ ap (λ top. said (address_of word) (base_of_word word) top) c.requires.top)
     c.put.ensures.tokens

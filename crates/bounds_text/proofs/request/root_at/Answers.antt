@@ -1,6 +1,6 @@
 use Rattle.std.proofs.Common.{false, refl, ◌∙◌, arith}
 use Rattle.cap_bounds.specs.RootLaws.{IsWordWellFormed-root, decoded-root}
-use Rattle.bounds_objects.proofs.request.root_at.Goals as goal
+use Rattle.bounds_text.proofs.request.root_at.Goals as goal
 
 pub from_word-requires : goal.from_word-requires
 from_word-requires g c =
