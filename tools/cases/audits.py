@@ -35,7 +35,7 @@ def finds(text, rules, count, *steps, **how):
 def enters(text, count, steps=1000, options="", gap=GAP, tick=TICK, keys=b""):
     """An audit without a policy, which lists so many rules."""
     made = Program(text)
-    rules = entered(made.machine(), steps, gap, tick, keys)
+    rules = entered(made.machine(), steps, gap, tick, keys, "--json" in options.split())
     assert rules.count("\n") == count
     file = FILE if text == FIRST else f"first.img {quoted(image_of(made))}"
     return case(" ".join(["audit", "first.img", str(steps), *options.split()]), [file, *([f"keys {quoted(keys)}"] if keys else [])], 0,

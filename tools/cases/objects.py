@@ -1,21 +1,24 @@
 """Cases of `--json`: the lines that `run`, `go`, `bounds` and `word` tell as objects.
 
 Values are those of the texts, by the model: of requests, lengths and words as in bounds_texts.py, of a run's end as in
-tools/model/unhandled.py. The lines are what json.dumps makes of them.
+tools/model/unhandled.py, of a step, and of why it traps, as in tools/model/asked.py. The lines are what json.dumps makes of them.
 """
 import json
 
+from cases.audits import Audit, enters
 from cases.bounds_texts import LENGTHS, WORKED, drawn, lengths, shaped, window
-from cases.program_lines import FILE, SENDS_A, TRACE, case, file_of, profiled
-from cases.program_runs import (HALTS_WITH_7, HANDLER_TRAPS, HANDLER_TRAPS_AT_ONCE, IS_HANDLED, IS_HANDLED_ONCE, LOADS_BY_NULL,
-                                LOADS_NOTHING, LOADS_PAST_THE_END, NESTED_RETURNS)
+from cases.policed import BY_ROOT, CALL, FIRST, HALTS, WHOLE, Watch, inside, program
+from cases.program_lines import FILE, SENDS_A, case, file_of, profiled
+from cases.program_runs import (HALTS_WITH_7, HANDLER_TRAPS, HANDLER_TRAPS_AT_ONCE, IS_HANDLED, IS_HANDLED_ONCE,
+                                LOAD_IS_HANDLED, LOADS_BY_NULL, LOADS_NOTHING, LOADS_PAST_THE_END, NESTED_RETURNS)
 from cases.words import distinct_words
 from model import unhandled
+from model.asked import Asking, why_objects
 from model.bounds import alignment_mask, bounded, by_the_least_exponent
 from model.devices import RAM
 from model.faults import LOAD_ACCESS
 from model.objects import half, line, place, sealing, wide
-from model.rights import letters
+from model.rights import LOAD, LOAD_CAPABILITY, SEAL, STORE, letters
 from model.texts import machine_of
 from model.words import NULL_HIGH, ONES, ROOT_HIGH, SPACE, decoded, exponent_and_mantissas, fields, is_well_formed, kept
 
@@ -97,6 +100,28 @@ def end_object(text, steps, labels=()):
     return line(members)
 
 
+def after(text, steps, keys=b""):
+    """The machine of a text after so many steps, with a byte before each, as many as there are, and before the next one."""
+    machine = machine_of(text)
+    for number in range(steps + 1):
+        for byte in keys[number:number + 1]:
+            machine.byte(byte)
+        if number < steps:
+            machine.step()
+    return machine
+
+
+def stopped_objects(text, steps, labels=(), keys=b""):
+    """Where a run ends before a trap, after so many steps, and why the next step traps."""
+    machine = after(text, steps, keys)
+    return line({"status": 1, "halted": None, "steps": steps, "pcc": place(machine.pc, labels)}) + why_objects(machine, labels)
+
+
+def traced_objects(text, numbers, labels=(), keys=b""):
+    """The lines of a trace of the steps of these numbers."""
+    return "".join(Asking(after(text, number - 1, keys), labels).trace_object(number) for number in numbers).encode()
+
+
 def answers():
     yield "# what setting bounds gives, where the request is a capability and where it isn't"
     for base, length, address in WORKED + list(drawn())[::4]:
@@ -120,8 +145,6 @@ def ends():
     yield case("run seven.img 9 --json", [file_of("seven.img", HALTS_WITH_7)], 1, "open seven.img", b"", end_object(HALTS_WITH_7, 3))
     halts = "addi a0, zero, -1; lui a1, 0x100; sd a0, 0(a1)"
     yield case("run ones.img 9 --json", [file_of("ones.img", halts)], 1, "open ones.img", b"", end_object(halts, 3))
-    yield case("run first.img 4 --json --trace t", [FILE], 1, "open first.img, make t", b"A", end_object(SENDS_A, 4),
-               "".join(TRACE.splitlines(True)[:4]).encode())
     yield case("run first.img 4 --profile p --json", [FILE], 1, "open first.img, make p", b"A", end_object(SENDS_A, 4),
                profiled(SENDS_A, 4).encode())
     yield "# the first trap that is open and the last, where the last step was one, or else the last that was taken"
@@ -147,5 +170,97 @@ def ends():
     yield case("run none.img 4 --json", [FILE], 3, "open none.img", told="cherisim: file none.img\n  No such file or directory\n")
 
 
+def stops():
+    """Runs that end before a trap."""
+    def stopped(options, text, steps, labels=()):
+        table = [f'a.sym "{"".join(f"{at:016x} {name}{chr(92)}n" for at, name in labels)}"'] if labels else []
+        return case(f"run trap.img {options} --json", [file_of("trap.img", text), *table], 1,
+                    ", ".join(["open trap.img", *(["open a.sym"] if labels else [])]), b"", stopped_objects(text, steps, labels))
+
+    yield "# a run that is to stop before a trap, and meets none, is as any other"
+    yield case("run first.img 9 --why --json", [FILE], 0, "open first.img", b"A", end_object(SENDS_A, 5))
+    yield case("run first.img 4 --json --why=all", [FILE], 1, "open first.img", b"A", end_object(SENDS_A, 4))
+    yield case("run trap.img 9 --json --why", [file_of("trap.img", LOAD_IS_HANDLED)], 1, "open trap.img", b"",
+               end_object(LOAD_IS_HANDLED, 9))
+    yield "# before it, and why the next step traps; also where the run is quiet"
+    yield stopped("9 --why", "ecall", 0)
+    yield stopped("9 --why --quiet", "ecall", 0)
+    for why in ("--why", "--why=all"):
+        yield stopped(f"9 {why}", LOADS_BY_NULL, 0)
+    yield stopped("2 --why=all", "ecall", 1)
+    yield stopped("13 --why", IS_HANDLED_ONCE, 9)
+    yield stopped("9 --why=all", LOAD_IS_HANDLED, 3)
+    yield stopped("9 --why --symbols a.sym", LOADS_BY_NULL, 0, [(RAM - 4, "below"), (0, "null")])
+
+
+def traces():
+    """Traces as objects."""
+    def traced(options, text, steps, numbers, labels=(), sent=b"", told=None):
+        table = [f'a.sym "{"".join(f"{at:016x} {name}{chr(92)}n" for at, name in labels)}"'] if labels else []
+        return case(f"run a.img {options} --json --trace t", [file_of("a.img", text), *table], 1 if told else 0,
+                    ", ".join(["open a.img", *(["open a.sym"] if labels else []), "make t"]), sent,
+                    told or end_object(text, steps, labels), traced_objects(text, numbers, labels))
+
+    yield "# a step a line: its number, where it is, its instruction, and what it comes to"
+    yield traced("9", SENDS_A, 5, range(1, 6), sent=b"A")
+    yield traced("9 --quiet", SENDS_A, 5, range(1, 6), sent=b"A")
+    yield "# of those from a number on the last ones; with labels"
+    yield traced("9 --trace-from 2 --trace-last 3", SENDS_A, 5, range(3, 6), sent=b"A")
+    yield traced("9 --trace-from 5", SENDS_A, 5, range(5, 6), sent=b"A")
+    yield traced("9 --trace-from 6", SENDS_A, 5, (), sent=b"A")
+    yield traced("9 --symbols a.sym", SENDS_A, 5, range(1, 6), [(RAM + 4, "second"), (RAM, "first")], sent=b"A")
+    yield "# a trap, a fetch that faults, and one of those that no RAM answers"
+    for text, steps in ((LOADS_NOTHING, 2), (IS_HANDLED_ONCE, 13), (".word 0", 2)):
+        yield traced(str(steps), text, steps, range(1, steps + 1), told=end_object(text, steps))
+    yield "# the steps before a trap that a run stops before"
+    yield traced("9 --why=all", LOAD_IS_HANDLED, 3, range(1, 4), told=stopped_objects(LOAD_IS_HANDLED, 3))
+    yield traced("9 --why", "ecall", 0, (), told=stopped_objects("ecall", 0))
+
+
+def policed():
+    """Runs that a policy watches."""
+    def stopped(text, rules, *steps, options="", **how):
+        watch = Watch(text, rules, *steps, options=f"{options} --json", **how)
+        assert '"rule"' in watch.told
+        return watch.line()
+
+    yield "# what breaks a rule: before the first step, before the one that halts, and after others"
+    yield stopped(FIRST, WHOLE + "seal no\n", named=False)
+    yield stopped(FIRST, WHOLE + "seal no\n", named=False, options="--quiet")
+    yield stopped(FIRST, "when pc in 0x80000010..+4: halt no\n", named=False)
+    yield "# a rule with a tab and a comment; what leads to the member, with labels"
+    leads = program(("cs3", "table", 32, LOAD | LOAD_CAPABILITY), HALTS, ("cs0", "data", 8, STORE),
+                    data=["table: .cap data, 8, 12, 0", ".cap 0x100000, 8, 8, 0"])
+    for said in ("store within data..+4", "load within table..+32", "halt no"):
+        yield stopped(leads, "\n# about code\nwhen pc in\tcode..+4: " + said + " # no more\n")
+    yield "# what never breaks one ends as every run"
+    for steps in (1000, 2):
+        watch = Watch(FIRST, WHOLE + "store within 0..0xffffffffffffffff 0xffffffffffffffff..+1\n", steps, options="--json", named=False)
+        yield watch.line()
+
+
+def audits():
+    """Audits as objects."""
+    def finds(text, rules, count, *steps, options="", **how):
+        audit = Audit(text, rules, *steps, options=f"{options} --json", **how)
+        assert (audit.sent.count(b"\n"), audit.status) == (count, 1 if count else 0)
+        return audit
+
+    yield "# each part that is broken, once, in the order of steps, rules and parts"
+    yield finds(FIRST, "when pc in 0x80000010..+4: seal no\nwhen pc in 0x80000004..+8: load no, store within 0..1\n", 3, named=False).line()
+    yield finds(FIRST, WHOLE + ", ".join(f"{name} no" for name in BY_ROOT) + "\n", 9, named=False).line()
+    two = program(HALTS, ("cs0", "1", 2, SEAL), ("cs1", "data", 16, STORE), ("cs2", "data", 8, STORE | LOAD))
+    yield finds(two, inside("seal no", "load no", "store within data..+8") + "# again\n\t" + inside("store no", "seal no"), 5).line()
+    yield "# none; and what is found is not told of a quiet one"
+    yield finds(FIRST, "when pc in 0x80000014..+4: halt no\n", 0, named=False).line()
+    quiet = finds(FIRST, "when pc in 0x80000010..+4: halt no\n", 1, options="--quiet", named=False)
+    quiet.sent = b""
+    yield quiet.line()
+    yield "# without a policy a rule for each range of code that is entered"
+    yield enters(FIRST, 1, options="--json")
+    sentry = program(HALTS, ("cs0", "data", 16, CALL), before=["csealentry cs0, cs0"])
+    yield enters(sentry, 2, options="--json")
+
+
 def files():
-    yield "objects.txt", [*answers(), *ends()]
+    yield "objects.txt", [*answers(), *ends(), *stops(), *traces(), *policed(), *audits()]

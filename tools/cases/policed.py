@@ -61,7 +61,7 @@ class Watch:
         labels = made.symbols() if named else []
         read, fault = policy.read(rules, {name: address for address, name in labels})
         assert not fault, fault
-        self.status, self.sent, self.told = self.came(made.machine(), read, steps, gap, tick, keys, labels)
+        self.status, self.sent, self.told = self.came(made.machine(), read, steps, gap, tick, keys, labels, "--json" in options.split())
         file = FILE if text == FIRST else f"first.img {quoted(image_of(made))}"
         self.words = " ".join([self.COMMAND, "first.img", str(steps), "--policy p", *(["--symbols t"] if named else []), *options.split()])
         self.files = [file, *([f"t {quoted(table_text(labels))}"] if named else []), f"p {quoted(rules)}",

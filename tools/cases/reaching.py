@@ -12,7 +12,7 @@ from model.capabilities import base, is_unsealed, perms, top
 from model.devices import CONTROL, HALT, RAM, RECEIVE, STATUS, TIMER, TIMER_COMPARE, TRANSMIT
 from model.listings import named_address
 from model.names import CAPABILITY_NAMES, SPECIALS
-from model.objects import capability, line, place
+from model.objects import line, member as member_object
 from model.origins import fields
 from model.rights import ACCESS_SYSTEM_REGISTERS, ALL, SEAL, SENTRY, STORE, UNSEAL, UNSEALED, letters
 from model.sessions import Session, address
@@ -53,10 +53,8 @@ def members_text(found, labels=()):
 
 def objects_text(found, labels=()):
     """The members, an object a line."""
-    for number, (value, at, source) in enumerate(found):
-        granule = at[0] == reach.GRANULE
-        yield line({"member": number, "from": source, "register": None if granule else place_name(at),
-                    "granule": place(at[1], labels) if granule else None, "capability": capability(value)}).rstrip()
+    for number, member in enumerate(found):
+        yield line(member_object(number, member, place_name(member.place), labels)).rstrip()
 
 
 def graph_text(found, labels=()):

@@ -1,6 +1,6 @@
 """Conversations of the debugger, with what is answered by the rules of its commands."""
 
-from cases import explanations, reaching
+from cases import explanations, reaching, why_objects
 from cases.programs import machines
 from cases.conversations import STATE, conversation, modelled, replies, said
 from cases.quoting import quoted
@@ -28,7 +28,7 @@ csr
 caps
 mem ADDR [LEN]
 dis [ADDR [N]]
-why
+why [json]
 reach [members|dot|json|doors]
 may store|load|execute|learn ADDR LEN [through doors]
 may keep [ADDR LEN] [through doors]
@@ -42,8 +42,8 @@ quit
 EXAMPLES = {
     "step": "step 100", "tick": "tick 1", "byte": "byte 0x41", "until": "until 0x80000010", "go": "go 5000000",
     "changed": "changed ca0 1000", "back": "back 1", "origin": "origin ca0", "lost": "lost ca0", "stop": "stop at 0x80000010",
-    "reg": "reg ca0", "mem": "mem 0x80000000 64", "dis": "dis 0x80000000 4", "reach": "reach doors", "may": "may store 0x80000000 8",
-    "help": "help stop",
+    "reg": "reg ca0", "mem": "mem 0x80000000 64", "dis": "dis 0x80000000 4", "why": "why json", "reach": "reach doors",
+    "may": "may store 0x80000000 8", "help": "help stop",
 }
 
 # What the codes of refusals mean.
@@ -72,7 +72,8 @@ REFUSED = [
         "reg a0 a1", "reg a0,", "reg 10", "reg X1", "reg A0", "reg x01", "reg c32", "reg x-1", "reg s12", "reg t7",
         "reg a8", "reg czero", "reg cx5", "reg cc5", "reg null", "reg PCC", "reg pcc ddc", "reg cpcc", "reg mscratch", "reg mstatus",
         "reg c", "reg x", "regs a0",
-        "scr pcc", "csr mstatus", "caps 1", "why 1", "help 1", "help steps", "help step 1", "help Step", "help #", "help help stop",
+        "scr pcc", "csr mstatus", "caps 1", "why 1", "why json 1", "why JSON", "why members", "why json json",
+        "help 1", "help steps", "help step 1", "help Step", "help #", "help help stop",
         "help B9", "help b1", "help B", "help B1 B2", "help B2 1",
         "help fault", "go 0", "go -1", "go x", "go 1 1", "go 1000000000001", "go 0xffffffffffffffffff", "stop", "stop at",
         "stop at nolabel", "stop at 1 2", "stop at -1",
@@ -352,7 +353,7 @@ def cases():
                             replies([(f"help {code}", meaning) for code, meaning in CODES.items()] + [(" help\tB2 ", CODES["B2"])]))
     yield from conversation("what each command is told of", FIRST_IMAGE, replies(told_of_commands()))
     for given in (*CONVERSATIONS, *REPLAYED, *STOPPED, *UNBOUNDED, *SHOWN_UNASKED, *BESIDE_LABELS, *explanations.CONVERSATIONS,
-                  *reaching.CONVERSATIONS, *shown()):
+                  *why_objects.CONVERSATIONS, *reaching.CONVERSATIONS, *shown()):
         yield from conversation(*given)
     for about, text in TALKS:
         yield from conversation(about, RECEIVES, text)

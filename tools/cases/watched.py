@@ -1,7 +1,8 @@
-"""Runs that a policy watches, as the model meets them: what they send, what is told and the status; and audits of runs."""
+"""Runs that a policy watches, as the model meets them: what they send, what is told, in words or as objects, and the status; and audits
+of runs."""
 
 from cases.reaching import place_name, text
-from model import policy, reach
+from model import objects, policy, reach
 from model.capabilities import base, top
 from model.listings import named_address
 from model.machine import SEALED_JUMP
@@ -17,6 +18,12 @@ def held(found, number, labels):
     """The places that lead to a member, and the member, as `may` answers them."""
     way = " -> ".join(place_name(found[link].place, labels) for link in reach.chain(found, number))
     return f"{way} {text(found[number].value)}"
+
+
+def broken_by(found, breach, labels):
+    """The member that breaks a rule, as an object, and the way to it in words."""
+    number = breach.member
+    return objects.member(number, found[number], place_name(found[number].place), labels), held(found, number, labels)
 
 
 def run(machine, steps, schedule, look, after=lambda pc, step: None):
@@ -57,18 +64,20 @@ class Terms:
             self.terms = policy.terms_after(self.rules, self.terms, pc, self.machine.pc, self.found)
 
 
-def met(machine, rules, steps, schedule, labels):
+def met(machine, rules, steps, schedule, labels, json=False):
     """Runs a machine so many steps at most, up to its halt or to a step before which a rule that applies is broken: what is told of that,
     or nothing, and how many steps it had."""
     terms = Terms(machine, rules)
 
     def look(done):
         breach = policy.first_breach(terms.terms, machine.fetched_at(), terms.found) if terms.is_asked() else None
+        if breach and json:
+            return objects.stopped(breach, done, machine.pc, *broken_by(terms.found, breach, labels), labels)
         return breach and policy.stopped(breach, done, named_address(machine.pc, labels), held(terms.found, breach.member, labels))
     return run(machine, steps, schedule, look, terms.after)
 
 
-def audited(machine, rules, steps, gap=GAP, tick=TICK, keys=b"", labels=()):
+def audited(machine, rules, steps, gap=GAP, tick=TICK, keys=b"", labels=(), json=False):
     """The status of an audit by a policy, and its text: each part of a rule that is broken, where it is first."""
     terms, seen, told = Terms(machine, rules), set(), []
 
@@ -76,12 +85,14 @@ def audited(machine, rules, steps, gap=GAP, tick=TICK, keys=b"", labels=()):
         for breach in policy.breaches(terms.terms, machine.fetched_at(), terms.found) if terms.is_asked() else ():
             if (breach.rule.line, breach.part) not in seen:
                 seen.add((breach.rule.line, breach.part))
-                told.append(policy.listed(breach, done + 1, named_address(machine.pc, labels), held(terms.found, breach.member, labels)))
+                by, way = broken_by(terms.found, breach, labels)
+                told.append(objects.finding(breach, done + 1, machine.pc, by, way, labels) if json
+                            else policy.listed(breach, done + 1, named_address(machine.pc, labels), way))
     run(machine, steps, Schedule(gap, tick, keys), look, terms.after)
     return 1 if told else 0, "".join(told)
 
 
-def entered(machine, steps, gap=GAP, tick=TICK, keys=b""):
+def entered(machine, steps, gap=GAP, tick=TICK, keys=b"", json=False):
     """The rules for what a run enters: each time that PCC's bounds are others and not empty, a rule that isn't among those so far."""
     last, rules = None, []
 
@@ -94,12 +105,14 @@ def entered(machine, steps, gap=GAP, tick=TICK, keys=b""):
             rules.extend([] if rule in rules else [rule])
         last = bounds
     run(machine, steps, Schedule(gap, tick, keys), look)
-    return "".join(rules)
+    return "".join(map(objects.entry, rules) if json else rules)
 
 
-def ran(machine, rules, steps, gap=GAP, tick=TICK, keys=b"", labels=()):
+def ran(machine, rules, steps, gap=GAP, tick=TICK, keys=b"", labels=(), json=False):
     """The status of a watched run, and what is told. A run that takes all of its steps is one without a trap: those are told too."""
-    told, done = met(machine, rules, steps, Schedule(gap, tick, keys), labels)
+    told, done = met(machine, rules, steps, Schedule(gap, tick, keys), labels, json)
+    if json and not told:
+        return objects.untrapped(machine, done, labels)
     if told or machine.halted == 0:
         return 1 if told else 0, told
     assert machine.csrs["mcause"] == 0

@@ -14,12 +14,15 @@ from model.rights import SENTRY
 from model.rows import text_of
 from model.words import SPACE
 
-CAUSES = {faults.FETCH_ACCESS: "instruction access fault", faults.ILLEGAL: "illegal instruction", faults.BREAKPOINT: "breakpoint",
-          faults.ECALL: "environment call", faults.CHERI: "CHERI exception", faults.TIMER_INTERRUPT: "timer interrupt",
-          faults.EXTERNAL_INTERRUPT: "external interrupt"}
+CAUSES = {faults.JUMP_MISALIGNED: "instruction address misaligned", faults.FETCH_ACCESS: "instruction access fault",
+          faults.ILLEGAL: "illegal instruction", faults.BREAKPOINT: "breakpoint", faults.LOAD_MISALIGNED: "load address misaligned",
+          faults.LOAD_ACCESS: "load access fault", faults.STORE_MISALIGNED: "store address misaligned",
+          faults.STORE_ACCESS: "store access fault", faults.ECALL: "environment call", faults.CHERI: "CHERI exception",
+          faults.TIMER_INTERRUPT: "timer interrupt", faults.EXTERNAL_INTERRUPT: "external interrupt"}
 VIOLATIONS = {faults.LENGTH: "length", faults.TAG: "tag", faults.SEAL: "seal", faults.TYPE: "type", faults.EXECUTES: "permit execute",
               faults.LOADS: "permit load", faults.STORES: "permit store", faults.STORES_CAPABILITY: "permit store capability",
-              faults.STORES_LOCAL: "permit store local capability", faults.ACCESS: "access system registers"}
+              faults.STORES_LOCAL: "permit store local capability", faults.ACCESS: "access system registers",
+              faults.INVOKES: "permit CInvoke"}
 SIZES = {1: "1 byte", 2: "2 bytes", 4: "4 bytes", 8: "8 bytes"}
 
 # The rows that make a value of rs1 and a number, each with its way and the number of its source, rs2 and immediate.

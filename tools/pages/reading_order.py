@@ -75,9 +75,9 @@ REST = [
     ("what code can reach, as text", "reach_texts/specs/Text, Asked, Summary"),
     ("the command line and runs on a schedule",
      "command_line/specs/CommandLine; schedules/specs/Schedule; sim_run/specs/Trace, Verdict, Unhandled, Ending, Stopping, Profile"),
-    ("objects of JSON: bounds, words, where a run ended, and what code can reach",
-     "objects/specs/Items, Places; bounds_objects/specs/Bounds, Length, Word, Value; sim_run/specs/Object; "
-     "reach_texts/specs/Object"),
+    ("objects of JSON: bounds, words, steps and why, where a run ended, what code can reach, and what breaks a policy",
+     "objects/specs/Items, Places; bounds_objects/specs/Bounds, Length, Word, Value; explain/specs/StepFields, WhyObjects, TraceObject; "
+     "sim_run/specs/Object; reach_texts/specs/Object; breach_texts/specs/Object; policy_audit/specs/Object"),
     ("walks over a schedule, and who watches them", "schedules/specs/Whole, Walk, Pace, Both, Output"),
     ("policies as texts, runs that are watched by one, audits",
      "policy_text/specs/Policy, Sound; policy_runs/specs/Keeping; breach_texts/specs/Text; "
@@ -88,7 +88,7 @@ REST = [
     ("sessions",
      "debug_commands/specs/Address, Command; debugger/specs/SessionState, Stepping, Reaching, Reply, Answers, Conversation, Talk, OnSchedule"),
     ("what commands do with files",
-     "commands/specs/Files, Programs, Loading, Assembling, Imaging, Bounding, Listing, Running, Ending, Watching, RunFaults, Auditing, Proving, "
+     "commands/specs/Files, Programs, Loading, Assembling, Imaging, Bounding, Listing, Running, Watching, RunFaults, Auditing, Proving, "
      "Overwriting, FaultTexts; "
      "program/specs/Debugging, Telling, Carrying"),
     ("capabilities and the machine for C",

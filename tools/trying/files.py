@@ -57,7 +57,7 @@ FILES = [
     File("bounds", command_lines.bounds, 81, piece=20),
     File("lengths", command_lines.length, 69, piece=20),
     File("word_texts", command_lines.word, 126, piece=20),
-    File("sessions", conversations.session, 157, piece=10),
+    File("sessions", conversations.session, 206, piece=10),
     File("pasts", conversations.session, 202, piece=10),
     File("talks", conversations.talk, 171, piece=20),
     File("runs", programs.program, 15),

@@ -1,2 +1,3 @@
 -- What to read
 pub mod Text
+pub mod Object

@@ -1,12 +1,16 @@
-//! The lines that tell where a rule stopped a run.
-ghost use Rattle.std.specs.Prelude.{◌≡◌, ◌<◌, length, IfOk, string_bytes};
+//! Where a rule stopped a run, as lines and as an object.
+ghost use Rattle.std.specs.Prelude.{◌≡◌, ◌<◌, ◌++◌, length, IfOk, OnOk, string_bytes};
 ghost use Rattle.reach.specs.Reach.{members_in};
+ghost use Rattle.steps.specs.State.{pc_of};
+ghost use Rattle.breach_texts.specs.Object.{refused_object, standing_fields};
 ghost use Rattle.breach_texts.specs.Text.{refused_lines};
 
 use crate::breach::{RuleLine, put_breach};
+use crate::object::put_breach_fields;
 use cap_bounds::CapRep;
 use explain::put_standing;
 use machine::Machine;
+use objects::{Item, Writer, begin, finish, put, put_place};
 use policy::Refused;
 use reach::Reach;
 use std::alloc::{AllocError, Global};
@@ -47,4 +51,64 @@ pub fn refused_lines<C: CapRep>(
         refused.member,
     )?;
     Ok(text)
+}
+
+/// PCC's address.
+fn pc<C: CapRep>(machine: &Machine<C>) -> u64
+    ensures { result ≡ pc_of machine.now }
+{
+    machine.hart().scrs().pcc().address()
+}
+
+/// Says where a run stands that goes on, by the keys of a run's end: how many steps were done, and where PCC is.
+fn put_standing_fields<C: CapRep>(
+    object: &mut Writer,
+    machine: &Machine<C>,
+    symbols: &Symbols,
+    steps: u64,
+) -> Result<(), AllocError>
+    ensures tokens { OnOk result (object.new.tokens ≡ object.old.tokens ++ standing_fields symbols.now steps machine.now) }
+    ensures alone { object.new.before ≡ object.old.before }
+{
+    put(
+        object,
+        &[
+            Item::Number("status", 1),
+            Item::Null("halted"),
+            Item::Number("steps", steps),
+        ],
+    )?;
+    put_place(object, "pcc", symbols, pc(machine))
+}
+
+/// The line of an object that says where a run ended that a rule stopped, of the same values as `refused_lines`.
+///
+/// # Errors
+///
+/// Out of memory.
+pub fn refused_object<C: CapRep>(
+    alloc: Global,
+    machine: &Machine<C>,
+    symbols: &Symbols,
+    rule: RuleLine<'_>,
+    refused: Refused,
+    steps: u64,
+) -> Result<String, AllocError>
+    requires { refused.member < length (members_in machine.now) }
+    ensures { IfOk result (λ line. string_bytes line
+        ≡ refused_object symbols.now rule.entry.number rule.entry.text.now refused steps machine.now) }
+{
+    let reach = Reach::of(alloc, machine.hart())?;
+    let mut object = begin(alloc)?;
+    put_standing_fields(&mut object, machine, symbols, steps)?;
+    put_breach_fields(
+        &mut object,
+        alloc,
+        symbols,
+        reach.members(),
+        rule,
+        refused.ban,
+        refused.member,
+    )?;
+    finish(object)
 }

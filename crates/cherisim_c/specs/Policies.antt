@@ -81,20 +81,23 @@ c_breach lines (Some x) =
       found = true;
     }
 
+-- where a policy stops a run, or that it stops it nowhere, as C gets it
+abbrev pub ShowsStop : Policy → Schedule → List ℕ → State → Breach → Type 0
+ShowsStop policy schedule input s breach =
+    (stop : Option RunBreach) × Stops (terms_of policy.rules.items) schedule input s stop × (breach ≡ c_breach policy.lines.items stop)
+
 -- A breach says where the policy of a text stops a run, or that it stops it nowhere.
 pub record IsBreachOf (labels text : List ℕ) (schedule : Schedule) (input : List ℕ) (s : State) (breach : Breach) : Type 0 where
   pub policy : Policy
   pub is_read : IsPolicyOf labels text policy
-  pub stop : Option RunBreach
-  pub stops : Stops (terms_of policy.rules.items) schedule input s stop
-  pub shown : breach ≡ c_breach policy.lines.items stop
+  pub shown : ShowsStop policy schedule input s breach
 
 -- ---- an audit
 
 -- what an audit of a run tells, with these lines of its rules; a halted machine does no step
 abbrev pub audit_of : List RuleLine → List Symbol → List Terms → Schedule → List ℕ → State → List ℕ
 audit_of lines symbols rules schedule input s =
-    if is_halted s then [] else audit_text symbols lines rules (scheduled schedule input s) s
+    if is_halted s then [] else audit_text false symbols lines rules (scheduled schedule input s) s
 
 -- the same, where the rules are those of a text
 abbrev pub TellsOf : List ℕ → Texts → Schedule → List ℕ → State → List ℕ → Type 0

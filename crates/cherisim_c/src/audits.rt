@@ -9,14 +9,14 @@ ghost use Rattle.cherisim_c.specs.Status.{full, no_machine};
 
 use crate::asking::copy;
 use crate::handle::Handle;
-use crate::policed::{Texts, read_labelled, schedule_of};
-use crate::policies::cloned;
+use crate::life::cloned;
+use crate::policed::{Texts, asked_of};
 use crate::refusal::Refusal;
 use crate::status::NO_MACHINE;
 use crate::types::Timetable;
 use breach_texts::RuleLine;
 use machine::Machine;
-use policy_audit::{audit_run, rule_lines};
+use policy_audit::{Report, audit_run, rule_lines};
 use schedules::Schedule;
 use std::alloc::{AllocError, Global};
 use word_cap::WordCap;
@@ -39,12 +39,16 @@ fn tell(
         return Ok(());
     }
     let mut copy = cloned(alloc, machine)?;
+    let report = Report {
+        symbols: &read.symbols,
+        lines,
+        json: false,
+    };
     match audit_run(
         told,
         alloc,
-        &read.symbols,
+        &report,
         &read.policy.rules,
-        lines,
         &mut copy,
         schedule,
         input,
@@ -84,9 +88,8 @@ fn audited(
     ensures ok { IfOk result (λ told. IsAuditOf labels.now text.now timetable input.now machine.now (string_bytes told)) }
     ensures err { IfErr result (IsRefusalOf labels.now text.now timetable) }
 {
-    let schedule = schedule_of(timetable)?;
-    let read = read_labelled(alloc, labels, text)?;
-    match told_of(alloc, machine, text, &read, schedule, input) {
+    let asked = asked_of(alloc, labels, text, timetable)?;
+    match told_of(alloc, machine, text, &asked.texts, asked.schedule, input) {
         Ok(told) => Ok(told),
         Err(_) => Err(Refusal::Memory),
     }

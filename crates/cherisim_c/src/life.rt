@@ -16,7 +16,7 @@ use crate::status::{NO_MACHINE, NO_MEMORY, OK, status_of_image, status_of_text};
 use assembler::{AsmCode, AsmFault, assemble};
 use image::{Image, ImageFault, read};
 use machine::Machine;
-use std::alloc::Global;
+use std::alloc::{AllocError, Global};
 use word_cap::WordCap;
 
 /// The version of this interface.
@@ -168,12 +168,27 @@ pub extern "C" fn cherisim_assemble(
     }
 }
 
-/// Another machine in the same state, or `None` where there is no memory for it.
+/// A machine in the same state.
+pub(crate) fn cloned(
+    alloc: Global,
+    machine: &Machine<WordCap>,
+) -> Result<Machine<WordCap>, AllocError>
+    ensures { IfOk result (λ copy. copy ≡ machine.now) }
+{
+    match machine.try_clone(alloc) {
+        Ok(copy) => Ok(copy),
+        Err(_) => Err(AllocError),
+    }
+}
+
+/// The same, or `None` where there is no memory for it.
 fn copied(alloc: Global, machine: &Machine<WordCap>) -> Option<Box<Machine<WordCap>>>
     ensures { IfSome result (λ copy. copy.value ≡ machine.now) }
 {
-    let copy = machine.try_clone(alloc).ok()?;
-    Box::new(alloc, copy).ok()
+    match cloned(alloc, machine) {
+        Ok(copy) => Box::new(alloc, copy).ok(),
+        Err(_) => None,
+    }
 }
 
 /// Makes a machine in the state of another. Where it fails, the second handle keeps what it held.

@@ -22,6 +22,13 @@ pub(crate) struct Texts {
     pub symbols: Symbols,
 }
 
+/// A question by a policy about a run: its texts, and when the run ends.
+#[derive(Drop)]
+pub(crate) struct Asked {
+    pub texts: Texts,
+    pub schedule: Schedule,
+}
+
 /// The labels of a table.
 pub(crate) fn labels_of(alloc: Global, labels: &[u8]) -> Result<Symbols, Refusal>
     ensures correct { IfOk result (λ _. faulty_line labels.now ≡ None) }
@@ -50,7 +57,7 @@ fn policy_of(alloc: Global, text: &[u8], symbols: &Symbols) -> Result<Policy, Re
 }
 
 /// The schedule of a timetable, if a machine can run by it.
-pub(crate) fn schedule_of(timetable: Timetable) -> Result<Schedule, Refusal>
+fn schedule_of(timetable: Timetable) -> Result<Schedule, Refusal>
     ensures ok { IfOk result (λ schedule. (schedule ≡ schedule_of timetable) × IsRunnable schedule) }
     ensures fault { IfErr result (λ refusal. (labels text : List ℕ) → IsRefusalOf labels text timetable refusal) }
 {
@@ -71,6 +78,25 @@ pub(crate) fn read_labelled(alloc: Global, labels: &[u8], text: &[u8]) -> Result
     let symbols = labels_of(alloc, labels)?;
     match policy_of(alloc, text, &symbols) {
         Ok(policy) => Ok(Texts { policy, symbols }),
+        Err(refusal) => Err(refusal),
+    }
+}
+
+/// What a question by a policy about a run asks.
+pub(crate) fn asked_of(
+    alloc: Global,
+    labels: &[u8],
+    text: &[u8],
+    timetable: Timetable,
+) -> Result<Asked, Refusal>
+    ensures texts { IfOk result (λ asked. AreTexts labels.now text.now asked.texts) }
+    ensures schedule { IfOk result (λ asked. asked.schedule ≡ schedule_of timetable) }
+    ensures range { IfOk result (λ asked. IsRunnable asked.schedule) }
+    ensures err { IfErr result (IsRefusalOf labels.now text.now timetable) }
+{
+    let schedule = schedule_of(timetable)?;
+    match read_labelled(alloc, labels, text) {
+        Ok(texts) => Ok(Asked { texts, schedule }),
         Err(refusal) => Err(refusal),
     }
 }

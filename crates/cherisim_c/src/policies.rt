@@ -3,12 +3,13 @@
 ghost use Rattle.std.specs.Prelude.{◌≡◌, ◌≤◌, None, IfOk, IfErr, IfSome};
 ghost use Rattle.policy.specs.Terms.{terms_of};
 ghost use Rattle.schedules.specs.Schedule.{IsRunnable};
-ghost use Rattle.cherisim_c.specs.Policies.{c_breach, part_number, IsBreachOf, Stops};
+ghost use Rattle.cherisim_c.specs.Policies.{c_breach, part_number, IsBreachOf, ShowsStop, Stops};
 ghost use Rattle.cherisim_c.specs.Refusals.{schedule_of, IsRefusalOf, IsRefusal};
 ghost use Rattle.cherisim_c.specs.Status.{no_machine};
 
 use crate::handle::Handle;
-use crate::policed::{read_labelled, schedule_of};
+use crate::life::cloned;
+use crate::policed::{Texts, asked_of};
 use crate::refusal::Refusal;
 use crate::status::{NO_MACHINE, OK};
 use crate::types::{Breach, Timetable};
@@ -18,19 +19,6 @@ use policy_runs::{Breach as Found, find_breach};
 use schedules::Schedule;
 use std::alloc::{AllocError, Global};
 use word_cap::WordCap;
-
-/// A machine in the same state.
-pub(crate) fn cloned(
-    alloc: Global,
-    machine: &Machine<WordCap>,
-) -> Result<Machine<WordCap>, AllocError>
-    ensures { IfOk result (λ copy. copy ≡ machine.now) }
-{
-    match machine.try_clone(alloc) {
-        Ok(copy) => Ok(copy),
-        Err(_) => Err(AllocError),
-    }
-}
 
 /// The first step of a machine's run before which a rule is broken; the machine stays as it is. One that is halted does no step.
 fn breach_ahead(
@@ -91,6 +79,23 @@ fn breach_of(lines: &[u64], found: Option<Found>) -> Breach
     }
 }
 
+/// Where a policy stops a machine's run.
+fn found_by(
+    alloc: Global,
+    machine: &Machine<WordCap>,
+    read: &Texts,
+    schedule: Schedule,
+    input: &[u8],
+) -> Result<Breach, AllocError>
+    requires { IsRunnable schedule }
+    ensures { IfOk result (ShowsStop read.now.policy schedule input.now machine.now) }
+{
+    match breach_ahead(alloc, machine, &read.policy.rules, schedule, input) {
+        Ok(found) => Ok(breach_of(&read.policy.lines, found)),
+        Err(fault) => Err(fault),
+    }
+}
+
 /// Where the policy of a text stops a machine's run.
 fn watched(
     alloc: Global,
@@ -104,10 +109,9 @@ fn watched(
     ensures range { IfOk result (λ _. IsRunnable (schedule_of timetable)) }
     ensures err { IfErr result (IsRefusalOf labels.now text.now timetable) }
 {
-    let schedule = schedule_of(timetable)?;
-    let read = read_labelled(alloc, labels, text)?;
-    match breach_ahead(alloc, machine, &read.policy.rules, schedule, input) {
-        Ok(found) => Ok(breach_of(&read.policy.lines, found)),
+    let asked = asked_of(alloc, labels, text, timetable)?;
+    match found_by(alloc, machine, &asked.texts, asked.schedule, input) {
+        Ok(found) => Ok(found),
         Err(_) => Err(Refusal::Memory),
     }
 }

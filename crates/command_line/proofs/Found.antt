@@ -1,9 +1,9 @@
 -- What is found of arguments, and the plans that it is.
 use Rattle.std.proofs.Common.{◌≡◌, ◌∙◌, ℕ, ◌+◌, ◌*◌, ◌<◌, ◌≤◌, ◌^◌, List, [], ◌∷◌, refl, sym, ap, subst, codes, arith}
 use Rattle.std.specs.Prelude.{Option, Some, None, IfSome, IsSomeAnd, IsTrue, IfOk, IfErr, Result}
-use Rattle.std.specs.Prelude.{Ok, Err, true, false, Bool, ◌&&◌, nat_lt, nat_le, length}
+use Rattle.std.specs.Prelude.{Ok, Err, true, false, Bool, ◌&&◌, nat_lt, nat_le}
 use Rattle.std.specs.Prelude.{if◌then◌else◌, option_map, bytes_eq}
-use Rattle.std.specs.List.{AllByRecursion, AllZip, list_all}
+use Rattle.std.specs.List.{AllByRecursion, AllZip}
 use Rattle.std.specs.Char.{digit_value}
 use Rattle.std.specs.Str.Parse.{digits_value_after}
 use Rattle.clap.specs.Words.{App, app_of, Row, Text, first_of}
@@ -19,6 +19,7 @@ use Rattle.command_line.specs.CommandLine.{written_number, files_found, files_sa
 use Rattle.command_line.specs.CommandLine.{AreSaid, KeepsLimits, IsWithin, name_said, name_of, said, lines_named}
 use Rattle.command_line.specs.CommandLine.{commands, Says, IsScheduled, IsSound, NoPlanFits, may_stand, AreFit, HasAll}
 use Rattle.std.proofs.lemmas.Nat.{mul-le}
+use Rattle.std.proofs.lemmas.Slice.Eq.{bytes_eq-Decides}
 use borrow.Author.Tests.{ltb-true, lt-ltb, leb-true}
 
 pub if_err : {T E : Type 0} (r : Result T E) (P : Type 0) → P → IfErr r (λ _. P)
@@ -29,7 +30,7 @@ if_err (Err e) P p = p
 pub told : {E : Type 0} (r : Result Command E) (a b : App) → IfOk r (λ c. app_of c ≡ a) → a ≡ b → IfOk r (λ c. app_of c ≡ b)
 told r a b is e = subst (λ x. IfOk r (λ c. app_of c ≡ x)) e is
 
-both : (a b : Bool) → (a && b) ≡ true → (a ≡ true) × (b ≡ true)
+pub both : (a b : Bool) → (a && b) ≡ true → (a ≡ true) × (b ≡ true)
 both true b e = (refl, e)
 both false b e = cc
 
@@ -195,7 +196,7 @@ scheduled : (plan : Plan)
     → IfSome (lines_named (name_of plan) commands) (λ lines. AllZip (λ line said. KeepsLimits line.takes said) lines (said plan))
     → IsScheduled plan
 unfolding commands
-scheduled (Go request why profile json) k = record {
+scheduled (Go request why profile) k = record {
   some_step = k.1.0.0;
   some_times = k.1.1.0.0;
   most_steps = mul-le request.steps request.times 10000000000 10000 k.1.0.1 k.1.1.0.1;
@@ -203,7 +204,7 @@ scheduled (Go request why profile json) k = record {
   most_gap = k.1.1.1.1.0.1;
   most_tick = k.1.1.1.1.1.0.1;
 }
-scheduled (Run request why profile json) k = record {
+scheduled (Run request why profile) k = record {
   some_step = k.1.0.0;
   some_times = k.1.1.0.0;
   most_steps = mul-le request.steps request.times 100000000 1000000 k.1.0.1 k.1.1.0.1;
@@ -241,11 +242,15 @@ unfolding commands
 first_sound = (tt, tt, tt)
 
 -- no command has another name than those of the table
-none_named : (name : Text) (rows : List Entry) → AllByRecursion (λ row. bytes_eq name row.name ≡ false) rows → lines_named name rows ≡ None
-none_named name [] all = refl
-none_named name (row ∷ rows) all = ap (λ b. if b then Some row.lines else lines_named name rows) all.0 ∙ none_named name rows all.1
+another : (name other : Text) → (name ≡ other → ⊥) → bytes_eq name other ≡ false
+another name other differ = not_true (bytes_eq name other) (λ same. differ ((bytes_eq-Decides name other).0 same))
 
-pub no_other : (name : Text) (rows : List Row) → AllByRecursion (λ row. bytes_eq name row.name ≡ false) commands → HasAll name rows → ⊥
+none_named : (name : Text) (rows : List Entry) → AllByRecursion (λ row. name ≡ row.name → ⊥) rows → lines_named name rows ≡ None
+none_named name [] all = refl
+none_named name (row ∷ rows) all =
+    ap (λ b. if b then Some row.lines else lines_named name rows) (another name row.name all.0) ∙ none_named name rows all.1
+
+pub no_other : (name : Text) (rows : List Row) → AllByRecursion (λ row. name ≡ row.name → ⊥) commands → HasAll name rows → ⊥
 no_other name rows others has = subst (λ o. IsSomeAnd o (AreFit rows)) (none_named name commands others) has
 
 -- no plan is of a name that no command has

@@ -237,22 +237,12 @@ abbrev pub is_true : Option Text → Bool
 is_true None = false
 is_true (Some text) = bytes_eq text (codes "true")
 
--- an object is asked for
-abbrev pub asks_json : List Row → Bool
-asks_json rows = is_true (first_of (codes "json") rows)
-
--- and is one of an end that has none
-abbrev pub has_no_object : List Row → Bool
-has_no_object rows = asks_json rows && (is_used (codes "policy") rows || asks_why rows)
-
--- --trace-from and --trace-last go with --trace, --policy does not go with --why, neither goes with --json, and --address of `bounds` goes
--- with LENGTH
+-- --trace-from and --trace-last go with --trace, --policy does not go with --why, and --address of `bounds` goes with LENGTH
 abbrev pub may_stand : List Row → Bool
 may_stand rows =
     (is_used (codes "trace") rows || not (is_used (codes "trace-from") rows || is_used (codes "trace-last") rows))
     && (not (is_used (codes "policy") rows && asks_why rows)
-    && (not (has_no_object rows)
-    && (is_used (codes "LENGTH") rows || not (is_used (codes "address") rows))))
+    && (is_used (codes "LENGTH") rows || not (is_used (codes "address") rows)))
 
 -- whether a file is written, and its name, if one is named
 abbrev pub FileName : Type 0
@@ -294,8 +284,8 @@ are_apart (file ∷ files) = list_all (are_two file) files && are_apart files
 abbrev pub name_of : Plan → Text
 name_of (Asm input output symbols lines quiet) = codes "asm"
 name_of (Image flat output layout quiet) = codes "image"
-name_of (Go request why profile json) = codes "go"
-name_of (Run request why profile json) = codes "run"
+name_of (Go request why profile) = codes "go"
+name_of (Run request why profile) = codes "run"
 name_of (Audit request) = codes "audit"
 name_of (Prove request) = codes "prove"
 name_of (Dis image symbols header quiet) = codes "dis"
@@ -335,9 +325,9 @@ said (Asm input output symbols lines quiet) = its_file input ∷ its_file output
 said (Image flat output layout quiet) =
     its_file flat ∷ its_file output ∷ Amount layout.at ∷ Amount layout.entry ∷ Amount layout.pages ∷ Amount layout.mode
     ∷ Used layout.flat_elf ∷ Used quiet ∷ []
-said (Go request why profile json) = said_of_run request (Explained why ∷ file profile ∷ Used json ∷ [])
-said (Run request why profile json) = said_of_run request (Explained why ∷ file profile ∷ Used json ∷ [])
-said (Audit request) = said_of_run request []
+said (Go request why profile) = said_of_run request (Explained why ∷ file profile ∷ Used request.json ∷ [])
+said (Run request why profile) = said_of_run request (Explained why ∷ file profile ∷ Used request.json ∷ [])
+said (Audit request) = said_of_run request (Used request.json ∷ [])
 said (Prove request) =
     its_file request.image ∷ its_file request.policy ∷ file request.symbols ∷ file request.lines ∷ amount request.steps
     ∷ Used request.quiet ∷ []
@@ -394,8 +384,8 @@ pub record AreInRange (run : RunRequest) : Type 0 where
   pub most_tick : run.tick ≤ (limits RUN_TICK.2).1
 
 abbrev pub IsScheduled : Plan → Type 0
-IsScheduled (Go request why profile json) = AreInRange request
-IsScheduled (Run request why profile json) = AreInRange request
+IsScheduled (Go request why profile) = AreInRange request
+IsScheduled (Run request why profile) = AreInRange request
 IsScheduled (Audit request) = AreInRange request
 IsScheduled _ = ⊤
 

@@ -48,7 +48,8 @@ pub fn commands_and_arguments()
         ∷ argument (codes "input") Named Read None
         ∷ argument (codes "gap") Named (Count 1 1000000) (Some (codes "1000"))
         ∷ argument (codes "tick") Named (Count 0 1000000) (Some (codes "100"))
-        ∷ argument (codes "quiet") Flag Nothing None ∷ argument (codes "trace") Named Written None
+        ∷ argument (codes "quiet") Flag Nothing None ∷ argument (codes "json") Flag Nothing None
+        ∷ argument (codes "trace") Named Written None
         ∷ argument (codes "trace-from") Named (Start 1 100000000000000) None
         ∷ argument (codes "trace-last") Named (Count 1 1000000) None ∷ argument (codes "policy") Named Read None
         ∷ argument (codes "symbols") Named Read None ∷ argument (codes "lines") Named Read None ∷ []))

@@ -12,7 +12,7 @@ pub enum Why {
 }
 
 /// A run of an image that is asked for.
-#[derive(Clone, Copy, Debug, PartialEq, Eq)]
+#[derive(Clone, Copy)]
 pub struct RunRequest<'a> {
     /// The file with the image, or with the text that is assembled into it.
     pub image: &'a str,
@@ -28,6 +28,8 @@ pub struct RunRequest<'a> {
     pub input: Option<&'a str>,
     /// Whether the lines that say where a run ended are left out, and of an audit all that it tells.
     pub quiet: bool,
+    /// Whether its end, an explained trap, what breaks a policy and the lines of its trace are told as objects.
+    pub json: bool,
     /// The file that a line for each step is written to, if one is named.
     pub trace: Option<&'a str>,
     /// The first step that has a line there, 1 to 100000000000000.
@@ -43,7 +45,7 @@ pub struct RunRequest<'a> {
 }
 
 /// An image that is asked about, and the policy.
-#[derive(Clone, Copy, Debug, PartialEq, Eq)]
+#[derive(Clone, Copy)]
 pub struct ProveRequest<'a> {
     /// The file with the image, or with the text that is assembled into it.
     pub image: &'a str,
@@ -60,7 +62,7 @@ pub struct ProveRequest<'a> {
 }
 
 /// What the command line asks for.
-#[derive(Clone, Copy, Debug, PartialEq, Eq)]
+#[derive(Clone, Copy)]
 pub enum Plan<'a> {
     /// Assemble a text into an image.
     Asm {
@@ -94,8 +96,6 @@ pub enum Plan<'a> {
         why: Option<Why>,
         /// The file that its profile is written to, if one is named.
         profile: Option<&'a str>,
-        /// Whether its end is told as an object; with a policy or with `why` it isn't.
-        json: bool,
     },
     /// Run an image.
     Run {
@@ -105,8 +105,6 @@ pub enum Plan<'a> {
         why: Option<Why>,
         /// The file that its profile is written to, if one is named.
         profile: Option<&'a str>,
-        /// Whether its end is told as an object; with a policy or with `why` it isn't.
-        json: bool,
     },
     /// List what breaks a policy in a run of an image, or the policy that the run keeps to.
     Audit(RunRequest<'a>),

@@ -6,7 +6,7 @@ ghost use Rattle.std.specs.List.{list_all};
 ghost use Rattle.clap.specs.Words.{first_of, found_of, rows_of, kind_of, subcommand_rows_of};
 ghost use Rattle.clap.specs.declared.error.kind.ErrorKind.{ErrorKind};
 ghost use Rattle.command_line.specs.CommandLine.{found_in, IsSound, IsTaken, IsPlanOf, NoPlanFits, asks_all, may_stand, line_of, entry_of};
-ghost use Rattle.command_line.specs.CommandLine.{asks_why, has_no_object, names_ends};
+ghost use Rattle.command_line.specs.CommandLine.{asks_why, names_ends};
 ghost use Rattle.command_line.specs.CommandLine.{Said, AreFit, AreSaid, HasAll, Says, lines_named, commands, files_found, NothingStands};
 ghost use Rattle.command_line.specs.CommandLine.{are_apart, are_two, have_one_name, is_file, is_input, is_written, run_lines};
 ghost use Rattle.command_line.specs.CommandLine.{said_of_lines};
@@ -18,9 +18,7 @@ use crate::misfit::{MISSING, Misfit, misfit_text};
 use crate::plans::{Plan, ProveRequest, RunRequest};
 use crate::program::{alone, program};
 use crate::table::*;
-use crate::values::{
-    amount, ends, file, flag, is_fit, is_true, is_used, number, operand, text, why_of,
-};
+use crate::values::{amount, ends, file, flag, is_fit, is_used, number, operand, text, why_of};
 use clap::error::ErrorKind;
 use clap::{ArgMatches, Error};
 use std::alloc::{AllocError, Global};
@@ -36,9 +34,6 @@ const UNTRACED: &str = "--trace-from and --trace-last go with --trace";
 
 /// A run would have two reasons to stop.
 const TWO_STOPS: &str = "--policy does not go with --why";
-
-/// An object is asked for of an end that has none.
-const NO_OBJECT: &str = "--json goes with neither --policy nor --why";
 
 /// An address is to be placed against no bounds.
 const UNPLACED: &str = "--address goes with BASE and LENGTH";
@@ -93,13 +88,6 @@ fn asks_why(found: &ArgMatches<'_>) -> bool
     text(found, "why").and_then(why_of).is_some()
 }
 
-/// Whether an object is asked for of an end that has none.
-fn has_no_object(found: &ArgMatches<'_>) -> bool
-    ensures { result ≡ has_no_object (rows_of (found_of found.now)) }
-{
-    is_true(found, "json") && (is_used(found, "policy") || asks_why(found))
-}
-
 /// Whether the arguments that are used go together.
 fn may_stand<'a>(found: &ArgMatches<'a>) -> Result<(), Misfit<'a>>
     ensures ok { IfOk result (λ _. IsTrue (may_stand (rows_of (found_of found.now)))) }
@@ -111,9 +99,6 @@ fn may_stand<'a>(found: &ArgMatches<'a>) -> Result<(), Misfit<'a>>
     }
     if is_used(found, "policy") && asks_why(found) {
         return Err(Misfit::Told(TWO_STOPS));
-    }
-    if has_no_object(found) {
-        return Err(Misfit::Told(NO_OBJECT));
     }
     if is_used(found, "address") && !is_used(found, "LENGTH") {
         return Err(Misfit::Told(UNPLACED));
@@ -257,11 +242,18 @@ fn image_plan<'a>(found: &ArgMatches<'a>) -> Plan<'a>
 }
 
 /// The run of this file, of so many steps so many times, that the arguments ask for which `go`, `run` and `audit` share.
-fn run_request<'a>(found: &ArgMatches<'a>, image: &'a str, steps: u64, times: u64) -> RunRequest<'a>
+fn run_request<'a>(
+    found: &ArgMatches<'a>,
+    image: &'a str,
+    steps: u64,
+    times: u64,
+    json: bool,
+) -> RunRequest<'a>
     requires { AreFit (rows_of (found_of found.now)) run_lines }
     ensures said { AreSaid (rows_of (found_of found.now)) run_lines (said_of_lines result []) }
     ensures image { result.image ≡ image.entry }
     ensures steps { (result.steps ≡ steps) × (result.times ≡ times) }
+    ensures json { result.json ≡ json }
 {
     RunRequest {
         image,
@@ -271,6 +263,7 @@ fn run_request<'a>(found: &ArgMatches<'a>, image: &'a str, steps: u64, times: u6
         tick: amount(found, &RUN_TICK),
         input: file(found, &INPUT),
         quiet: flag(found, &STATUS),
+        json,
         trace: file(found, &TRACE),
         trace_from: amount(found, &TRACE_FROM),
         trace_last: number(found, &TRACE_LAST),
@@ -291,10 +284,10 @@ fn go_plan<'a>(found: &ArgMatches<'a>) -> Plan<'a>
             operand(found, &FILE),
             amount(found, &GO_STEPS),
             amount(found, &GO_TIMES),
+            flag(found, &RUN_JSON),
         ),
         why: ends(found, &WHY),
         profile: file(found, &PROFILE),
-        json: flag(found, &RUN_JSON),
     }
 }
 
@@ -309,10 +302,10 @@ fn run_plan<'a>(found: &ArgMatches<'a>) -> Plan<'a>
             operand(found, &IMAGE),
             amount(found, &STEPS),
             amount(found, &TIMES),
+            flag(found, &RUN_JSON),
         ),
         why: ends(found, &WHY),
         profile: file(found, &PROFILE),
-        json: flag(found, &RUN_JSON),
     }
 }
 
@@ -326,6 +319,7 @@ fn audit_plan<'a>(found: &ArgMatches<'a>) -> Plan<'a>
         operand(found, &IMAGE),
         amount(found, &STEPS),
         amount(found, &TIMES),
+        flag(found, &AUDIT_JSON),
     ))
 }
 
@@ -410,28 +404,18 @@ fn read<'a>(name: &str, found: &ArgMatches<'a>) -> Plan<'a>
     requires { HasAll name.now (rows_of (found_of found.now)) }
     ensures { Says name.now (rows_of (found_of found.now)) result }
 {
-    if name == "asm" {
-        asm_plan(found)
-    } else if name == "image" {
-        image_plan(found)
-    } else if name == "go" {
-        go_plan(found)
-    } else if name == "run" {
-        run_plan(found)
-    } else if name == "audit" {
-        audit_plan(found)
-    } else if name == "prove" {
-        prove_plan(found)
-    } else if name == "dis" {
-        dis_plan(found)
-    } else if name == "debug" {
-        debug_plan(found)
-    } else if name == "bounds" {
-        bounds_plan(found)
-    } else if name == "word" {
-        word_plan(found)
-    } else {
-        unreachable!()
+    match name {
+        "asm" => asm_plan(found),
+        "image" => image_plan(found),
+        "go" => go_plan(found),
+        "run" => run_plan(found),
+        "audit" => audit_plan(found),
+        "prove" => prove_plan(found),
+        "dis" => dis_plan(found),
+        "debug" => debug_plan(found),
+        "bounds" => bounds_plan(found),
+        "word" => word_plan(found),
+        _ => unreachable!(),
     }
 }
 
@@ -585,10 +569,9 @@ fn asks_all(words: &[&str]) -> bool
 /// Reads the words of a command line, the program's name first.
 ///
 /// A file that is written may not bear the name of another file of the command; `--trace-from` and `--trace-last` go with `--trace`,
-/// and `--policy` does not go with `--why`, nor `--json` with either; with one number `bounds` has a length and no address. `-` is standard
-/// input, which is read for one file at most, and for none of `debug`. A number is typed in decimal digits, or in hexadecimal digits after
-/// `0x`, and `_` may stand between two digits. `Help` and `Refused` hold the text for whoever typed the words; `Memory` says that there
-/// was none.
+/// and `--policy` does not go with `--why`; with one number `bounds` has a length and no address. `-` is standard input, which is read for
+/// one file at most, and for none of `debug`. A number is typed in decimal digits, or in hexadecimal digits after `0x`, and `_` may stand
+/// between two digits. `Help` and `Refused` hold the text for whoever typed the words; `Memory` says that there was none.
 pub fn plan<'a>(alloc: Global, words: &'a [&'a str]) -> Result<Plan<'a>, PlanFault>
     ensures taken { OnOk result (IsTaken (map (λ word. word.now) words.entry.now)) }
     ensures ok { IfOk result (IsPlanOf (found_in (map (λ word. word.now) words.entry.now))) }

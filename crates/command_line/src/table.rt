@@ -216,7 +216,10 @@ pub(crate) const WHY: Argument = argument!("why" FlagOrAll Ends, "WHICH",
     "Explains where the run ended if no instruction could be fetched; --why=all each end, --why=double a trap while one is open");
 
 pub(crate) const RUN_JSON: Argument = argument!("json" Flag Nothing, "",
-    "Tells where the run ended as an object of JSON, on one line of standard error");
+    "Tells the end, an explained trap, a breach of the policy and the lines of --trace as objects of JSON");
+
+pub(crate) const AUDIT_JSON: Argument = argument!("json" Flag Nothing, "",
+    "Tells each finding as an object of JSON, on one line");
 
 pub(crate) const JSON: Argument = argument!("json" Flag Nothing, "",
     "Answers with an object of JSON, on one line");
@@ -262,8 +265,8 @@ pub(crate) const COMMANDS: [CommandRow; 10] = [
         "audit",
         "Runs an image, and lists what breaks a policy, or what a policy would have to allow",
         &[
-            IMAGE, STEPS, TIMES, INPUT, RUN_GAP, RUN_TICK, STATUS, TRACE, TRACE_FROM, TRACE_LAST,
-            POLICY, RUN_LABELS, RUN_LINES,
+            IMAGE, STEPS, TIMES, INPUT, RUN_GAP, RUN_TICK, STATUS, AUDIT_JSON, TRACE, TRACE_FROM,
+            TRACE_LAST, POLICY, RUN_LABELS, RUN_LINES,
         ],
     ),
     (

@@ -27,7 +27,7 @@ pub(crate) fn is_used(found: &ArgMatches<'_>, id: &str) -> bool
 }
 
 /// Whether the flag of this id is used.
-pub(crate) fn is_true(found: &ArgMatches<'_>, id: &str) -> bool
+fn is_true(found: &ArgMatches<'_>, id: &str) -> bool
     ensures { result ≡ is_true (first_of id.now (rows_of (found_of found.now))) }
 {
     match text(found, id) {

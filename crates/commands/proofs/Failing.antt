@@ -3,11 +3,10 @@ use Rattle.std.specs.Prelude.{◌≡◌, ◌++◌, ℕ, List, [], ◌∷◌, Opt
 use Rattle.std.proofs.Common.{◌∙◌, ap, append_assoc, inl, inr, subst, sym}
 use Rattle.std.specs.Io.KnownBytes.{Appends}
 use Rattle.sim_run.specs.LineLaws.{lines_past-append}
-use Rattle.sim_run.specs.Trace.{lines_past}
+use Rattle.sim_run.specs.Trace.{Says, lines_past}
 use Rattle.steps.specs.declared.event.Event.{Event}
 use Rattle.steps.specs.State.{State}
 use Rattle.symbols.specs.Sources.{faulty_place}
-use Rattle.symbols.specs.Symbols.{Symbol}
 use Rattle.commands.specs.declared.fault.ProgramFault.{ProgramFault}
 use Rattle.commands.specs.declared.fault.ProgramFault.TheVariants.{CutShort, Lines, Memory}
 use Rattle.commands.specs.Files.{Text, File, Closes, Gains, Holds, IsNew, IsSourcesFault, IsTextSourcesFault, IsUnfinished, IsUnwritten}
@@ -35,13 +34,13 @@ sources_fault name files text Memory held is = tt
 sources_fault name files text other held is = absurd is
 
 -- the lines up to an event begin those of all
-pub past_cut : (table : List Symbol) (skipped : ℕ) (events done : List Event) (last : Event) (rest : List Event) (s : State)
+pub past_cut : (says : Says) (skipped : ℕ) (events done : List Event) (last : Event) (rest : List Event) (s : State)
     → events ≡ done ++ last ∷ rest
-    → (more : List ℕ) × (lines_past table skipped 0 events s ≡ lines_past table skipped 0 (done ++ last ∷ []) s ++ more)
-past_cut table skipped events done last rest s is = (
+    → (more : List ℕ) × (lines_past says skipped 0 events s ≡ lines_past says skipped 0 (done ++ last ∷ []) s ++ more)
+past_cut says skipped events done last rest s is = (
   _,
-  ap (λ es. lines_past table skipped 0 es s) (is ∙ sym (append_assoc done (last ∷ []) rest))
-      ∙ lines_past-append table skipped 0 (done ++ last ∷ []) rest s,
+  ap (λ es. lines_past says skipped 0 es s) (is ∙ sym (append_assoc done (last ∷ []) rest))
+      ∙ lines_past-append says skipped 0 (done ++ last ∷ []) rest s,
 )
 
 -- a trace whose run the output cut short, which is then closed, if it can be

@@ -25,12 +25,12 @@ five_steps image table input =
     record { image = image; table = table; schedule = record { steps = 5; gap = 1000; tick = 100 }; input = input }
 
 pub ran_first : (image : Image) (table : List Symbol) (input : List ℕ) (ended : Ended) (old new : Option (List ℕ))
-    → image ≡ first_image → table ≡ [] → input ≡ [] → Runs (five_steps image table input) None false ended old new
-    → Runs first_run None false ended old new
+    → image ≡ first_image → table ≡ [] → input ≡ [] → Runs (five_steps image table input) None false false ended old new
+    → Runs first_run None false false ended old new
 ran_first image table input ended old new first none empty runs =
-    subst (λ i. Runs (five_steps i [] []) None false ended old new) first
-    (subst (λ xs. Runs (five_steps image [] xs) None false ended old new) empty
-    (subst (λ t. Runs (five_steps image t input) None false ended old new) none runs))
+    subst (λ i. Runs (five_steps i [] []) None false false ended old new) first
+    (subst (λ xs. Runs (five_steps image [] xs) None false false ended old new) empty
+    (subst (λ t. Runs (five_steps image t input) None false false ended old new) none runs))
 
 pub on_ok : {T E : Type 0} (r : Result T E) (P Q : T → Type 0) → ((x : T) → P x → Q x) → IfOk r P → IfOk r Q
 on_ok (Ok x) P Q next p = next x p

@@ -16,20 +16,20 @@ use Rattle.commands.specs.Loading.{FailsToLoad, IsLoaded, Run, events_to, run_of
 use Rattle.commands.specs.RunFaults.{FailsToTrace}
 use Rattle.commands.specs.Running.{Traces, trace_of}
 
--- The audit of a run by a policy is told, with the lines of its rules; and how many parts are broken.
-abbrev pub Audits : Rules → Run → Audited → Type 0
-Audits rules run audited =
+-- The audit of a run by a policy is told, in words or as objects, with the lines of its rules; and how many parts are broken.
+abbrev pub Audits : Bool → Rules → Run → Audited → Type 0
+Audits json rules run audited =
     (lines : List RuleLine) × AreLinesOf rules.text.items rules.policy.lines.items lines
-    × (string_bytes audited.text ≡ audit_text run.table lines (terms_in rules) (events_to None run) (opening run.image))
+    × (string_bytes audited.text ≡ audit_text json run.table lines (terms_in rules) (events_to None run) (opening run.image))
     × (audited.count ≡ length (audit_findings (terms_in rules) (events_to None run) (opening run.image)))
 
 -- Without a policy its entries are told.
-abbrev pub ListsEntries : Run → Audited → Type 0
-ListsEntries run audited = (string_bytes audited.text ≡ entries_text (events_to None run) (opening run.image)) × (audited.count ≡ 0)
+abbrev pub ListsEntries : Bool → Run → Audited → Type 0
+ListsEntries json run audited = (string_bytes audited.text ≡ entries_text json (events_to None run) (opening run.image)) × (audited.count ≡ 0)
 
-abbrev pub AuditsBy : Option Rules → Run → Audited → Type 0
-AuditsBy None run audited = ListsEntries run audited
-AuditsBy (Some rules) run audited = Audits rules run audited
+abbrev pub AuditsBy : Bool → Option Rules → Run → Audited → Type 0
+AuditsBy json None run audited = ListsEntries json run audited
+AuditsBy json (Some rules) run audited = Audits json rules run audited
 
 -- what is told, unless nothing is to be
 abbrev pub told_unless : Bool → List ℕ → List ℕ
@@ -38,7 +38,7 @@ told_unless quiet text = if quiet then [] else text
 -- A run is audited, the lines of its trace that are kept are written to a file, if one is named, and what is told is written.
 abbrev pub AuditsLoaded : LoadedRun → ℕ → Change → Type 0
 AuditsLoaded loaded count change =
-    (audited : Audited) × AuditsBy loaded.rules (run_of loaded) audited
+    (audited : Audited) × AuditsBy loaded.request.json loaded.rules (run_of loaded) audited
     × Traces loaded.request.trace (trace_of loaded.request (run_of loaded) (events_to None (run_of loaded))) change.old change.new
     × (count ≡ audited.count) × Appends change.sent change.out (told_unless loaded.request.quiet (string_bytes audited.text))
 

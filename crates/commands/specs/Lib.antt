@@ -7,7 +7,6 @@ pub mod Bounding
 pub mod Listing
 pub mod Loading
 pub mod Running
-pub mod Ending
 pub mod Watching
 pub mod RunFaults
 pub mod Auditing

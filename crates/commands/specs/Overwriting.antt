@@ -32,8 +32,8 @@ overwrites same (Asm input output symbols lines quiet) =
     ((same output.now input.now || are_same same symbols (Some input)) || are_same same symbols (Some output))
     || ((are_same same lines (Some input) || are_same same lines (Some output)) || are_same same lines symbols)
 overwrites same (Image flat output layout quiet) = same output.now flat.now
-overwrites same (Go request why profile json) = runs_over same request profile
-overwrites same (Run request why profile json) = runs_over same request profile
+overwrites same (Go request why profile) = runs_over same request profile
+overwrites same (Run request why profile) = runs_over same request profile
 overwrites same (Audit request) = traces_over same request
 overwrites same other = false
 

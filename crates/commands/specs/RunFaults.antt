@@ -20,7 +20,7 @@ abbrev pub IsCutTrace : Text → List ℕ → Option (List File) → Option (Lis
 IsCutTrace name lines old new =
     Gains old new (begun name ∷ []) ⊎ ((cut rest : List ℕ) × (lines ≡ cut ++ rest) × Gains old new (whole name cut))
 
--- a trace that is named: it isn't made, or it is made and cut short; there is no memory for the machine before, or for a block of its lines
+-- a trace that is named: it isn't made, or it is made and cut short; there is no memory for the machine before, or for its lines
 -- after; or a write to the output fails
 pub data FailsTraced (name : Text) (lines : List ℕ) (old new : Option (List File)) (fault : ProgramFault) : Type 0 where
   no_machine : IsNoMemory fault → new ≡ old → FailsTraced name lines old new fault
@@ -65,7 +65,7 @@ pub data FailsWatched (rules : Rules) (request : RunRequest) (profile : Option (
     (fault : ProgramFault) : Type 0 where
   at_start : IsNoMemory fault → new ≡ old → FailsWatched rules request profile run old new fault
   stopped :
-      (number : ℕ) (lines : List ℕ) → IsStop rules run request.quiet number lines
+      (number : ℕ) (lines : List ℕ) → IsStop rules run request.json request.quiet number lines
       → FailsToWriteRun request profile run (events_to (Some number) run) old new fault
       → FailsWatched rules request profile run old new fault
   whole_run :

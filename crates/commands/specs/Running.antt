@@ -16,9 +16,10 @@ use Rattle.sim_run.specs.declared.run.Ran.{Ran}
 use Rattle.sim_run.specs.declared.stopping.StopAt.{StopAt}
 use Rattle.sim_run.specs.declared.stopping.StopAt.TheVariants as stop
 use Rattle.sim_run.specs.Ending.{ending_lines}
+use Rattle.sim_run.specs.Object.{ending_object, stopped_objects}
 use Rattle.sim_run.specs.Profile.{IsProfile, fetches}
 use Rattle.sim_run.specs.Stopping.{events_met, stop_met, stopped_lines}
-use Rattle.sim_run.specs.Trace.{trace_text}
+use Rattle.sim_run.specs.Trace.{says_by, trace_text}
 use Rattle.sim_run.specs.Unhandled.{trap_left}
 use Rattle.sim_run.specs.Verdict.{status_of}
 use Rattle.steps.specs.declared.event.Event.{Event}
@@ -62,23 +63,34 @@ place_lines run true events = stopped_lines run.table (steps_in events) (state_a
 place_lines run false events =
     ending_lines run.table (steps_in events) (trap_left events (opening run.image)) (state_after events run)
 
-abbrev pub place_of : Run → Bool → Bool → List Event → List ℕ
-place_of run quiet stopped events =
-    if is_told quiet (end_of (state_after events run)) then place_lines run stopped events else []
+-- the same values as objects of JSON
+abbrev pub place_objects : Run → Bool → List Event → List ℕ
+place_objects run true events =
+    let s = state_after events run in
+    stopped_objects run.table (end_of s) (steps_in events) s
+place_objects run false events =
+    let s = state_after events run in
+    ending_object run.table (end_of s) (steps_in events) (trap_left events (opening run.image)) s
+
+-- with --json objects are told of every end, and also where the run is quiet
+abbrev pub place_of : Run → Bool → Bool → Bool → List Event → List ℕ
+place_of run json quiet stopped events =
+    if json then place_objects run stopped events
+    else if is_told quiet (end_of (state_after events run)) then place_lines run stopped events else []
 
 -- how a run ended that met these events, and the lines that say where
-abbrev pub HasEnded : Run → Bool → Bool → List Event → Ended → Type 0
-HasEnded run quiet stopped events ended =
-    (ended.end ≡ end_of (state_after events run)) × (string_bytes ended.place ≡ place_of run quiet stopped events)
+abbrev pub HasEnded : Run → Bool → Bool → Bool → List Event → Ended → Type 0
+HasEnded run json quiet stopped events ended =
+    (ended.end ≡ end_of (state_after events run)) × (string_bytes ended.place ≡ place_of run json quiet stopped events)
 
 -- An output grows by what a run sends up to the trap that it stops at, and the run ends so.
-abbrev pub Runs : Run → Option StopAt → Bool → Ended → Option (List ℕ) → Option (List ℕ) → Type 0
-Runs run at quiet ended old new =
-    Sends run (events_of at run) old new × HasEnded run quiet (stops at run) (events_of at run) ended
+abbrev pub Runs : Run → Option StopAt → Bool → Bool → Ended → Option (List ℕ) → Option (List ℕ) → Type 0
+Runs run at json quiet ended old new =
+    Sends run (events_of at run) old new × HasEnded run json quiet (stops at run) (events_of at run) ended
 
--- the lines that are kept of the trace of these events
+-- the lines that are kept of the trace of these events, with --json objects
 abbrev pub trace_of : RunRequest → Run → List Event → List ℕ
-trace_of request run events = trace_text run.table request.trace_from request.trace_last events (opening run.image)
+trace_of request run events = trace_text (says_by request.json run.table) request.trace_from request.trace_last events (opening run.image)
 
 -- A trace is written to a file, if one is named, and no other file is.
 abbrev pub Traces : Option (Bor Text) → List ℕ → Option (List File) → Option (List File) → Type 0
@@ -101,7 +113,7 @@ Writes request (Some name) run events old new =
 -- A run that no policy watches.
 abbrev pub RunsFreely : RunRequest → Option (Bor Text) → Option StopAt → Run → Ended → Change → Type 0
 RunsFreely request profile at run ended change =
-    Runs run at request.quiet ended change.sent change.out
+    Runs run at request.json request.quiet ended change.sent change.out
     × Writes request profile run (events_of at run) change.old change.new
 
 -- ---- the first image

@@ -1,6 +1,8 @@
 -- What a run does that is watched by a policy, and where it ends.
-use Rattle.std.specs.Prelude.{◌≡◌, ℕ, ◌-◌, Bool, true, false, List, [], Option, Some, None, get_or, string_bytes, IsUtf8}
+use Rattle.std.specs.Prelude.{◌≡◌, ℕ, ◌-◌, Bool, true, false, not, ◌&&◌, if◌then◌else◌, List, [], Option, Some, None, get_or}
+use Rattle.std.specs.Prelude.{string_bytes, IsUtf8}
 use Rattle.std.specs.Borrow.{Bor}
+use Rattle.breach_texts.specs.Object.{refused_object}
 use Rattle.breach_texts.specs.Text.{refused_lines}
 use Rattle.command_line.specs.declared.plans.RunRequest.{RunRequest}
 use Rattle.hart.specs.Opening.{opening}
@@ -28,12 +30,17 @@ use Rattle.commands.specs.Running.{RunsFreely, Sends, Writes, place_of}
 abbrev pub line_number : Rules → ℕ → ℕ
 line_number rules rule = get_or rules.policy.lines.items rule 1
 
--- The lines that say where a run was stopped at what breaks a rule, which is told as its line in the text says it.
-abbrev pub TellsRefused : Rules → List Symbol → Refused → ℕ → State → List ℕ → Type 0
-TellsRefused rules table x number s told =
+-- where a run was stopped at what breaks a rule, as an object or in words
+abbrev pub refused_by : Bool → List Symbol → ℕ → List ℕ → Refused → ℕ → State → List ℕ
+refused_by json table number rule x steps s =
+    if json then refused_object table number rule x steps s else refused_lines table number rule x steps s
+
+-- The rule is told as its line in the text says it.
+abbrev pub TellsRefused : Bool → Rules → List Symbol → Refused → ℕ → State → List ℕ → Type 0
+TellsRefused json rules table x number s told =
     (rule : List ℕ)
     × (IsUtf8 (line_text rules.text.items (line_number rules x.rule)) → rule ≡ line_text rules.text.items (line_number rules x.rule))
-    × (told ≡ refused_lines table (line_number rules x.rule) rule x (number - 1) s)
+    × (told ≡ refused_by json table (line_number rules x.rule) rule x (number - 1) s)
 
 -- the state before the step of a number, and the terms in force there
 abbrev pub state_before : ℕ → Run → State
@@ -42,28 +49,32 @@ state_before number run = state_after (events_to (Some number) run) run
 abbrev pub force_before : ℕ → Rules → Run → List Terms
 force_before number rules run = in_force (terms_in rules) (events_to (Some number) run) (opening run.image)
 
--- The rule that is broken is one of those in force. A run that is quiet tells no line.
-abbrev pub TellsStop : Bool → Rules → Run → ℕ → List ℕ → Type 0
-TellsStop true rules run number told = told ≡ []
-TellsStop false rules run number told =
+-- nothing is told of a run that is quiet, but for an object that is asked for
+abbrev pub is_silent : Bool → Bool → Bool
+is_silent json quiet = not json && quiet
+
+-- The rule that is broken is one of those in force. A run that is silent tells no line.
+abbrev pub TellsStop : Bool → Bool → Rules → Run → ℕ → List ℕ → Type 0
+TellsStop true json rules run number told = told ≡ []
+TellsStop false json rules run number told =
     (x : Refused) × IsRefused (force_before number rules run) x (state_before number run)
-    × TellsRefused rules run.table x number (state_before number run) told
+    × TellsRefused json rules run.table x number (state_before number run) told
 
 -- A policy stops a run before a step of a number: each step before it keeps to each rule that applies, by the terms in force, and then
 -- a reachable capability breaks one; and these lines are told.
-pub record IsStop (rules : Rules) (run : Run) (quiet : Bool) (number : ℕ) (lines : List ℕ) : Type 0 where
+pub record IsStop (rules : Rules) (run : Run) (json quiet : Bool) (number : ℕ) (lines : List ℕ) : Type 0 where
   pub place : IsPlaceOf run.schedule number
   pub kept : StepsKeepToEach (terms_in rules) (events_to (Some number) run) (opening run.image)
   pub refused : (x : Refused) × IsRefused (force_before number rules run) x (state_before number run)
-  pub told : TellsStop quiet rules run number lines
+  pub told : TellsStop (is_silent json quiet) json rules run number lines
 
 -- It doesn't: each step of the run keeps to each rule that applies.
 abbrev pub KeepsToEnd : Rules → Run → Type 0
 KeepsToEnd rules run = StepsKeepToEach (terms_in rules) (events_to None run) (opening run.image)
 
-abbrev pub IsStopOf : Rules → Run → Bool → Option Stop → Type 0
-IsStopOf rules run quiet None = KeepsToEnd rules run
-IsStopOf rules run quiet (Some stop) = IsStop rules run quiet stop.number (string_bytes stop.lines)
+abbrev pub IsStopOf : Rules → Run → Bool → Bool → Option Stop → Type 0
+IsStopOf rules run json quiet None = KeepsToEnd rules run
+IsStopOf rules run json quiet (Some stop) = IsStop rules run json quiet stop.number (string_bytes stop.lines)
 
 -- what is sent is written, so are its trace and its profile, if files are named for them, and the run ends as its machine does
 pub record Ends (request : RunRequest) (profile : Option (Bor Text)) (run : Run) (events : List Event) (ended : Ended) (change : Change)
@@ -76,10 +87,10 @@ pub record Ends (request : RunRequest) (profile : Option (Bor Text)) (run : Run)
 pub data IsWatchedRun (rules : Rules) (request : RunRequest) (profile : Option (Bor Text)) (run : Run) (ended : Ended) (change : Change)
     : Type 0 where
   stopped :
-      (number : ℕ) → IsStop rules run request.quiet number (string_bytes ended.place)
+      (number : ℕ) → IsStop rules run request.json request.quiet number (string_bytes ended.place)
       → Ends request profile run (events_to (Some number) run) ended change → IsWatchedRun rules request profile run ended change
   whole :
-      KeepsToEnd rules run → string_bytes ended.place ≡ place_of run request.quiet false (events_to None run)
+      KeepsToEnd rules run → string_bytes ended.place ≡ place_of run request.json request.quiet false (events_to None run)
       → Ends request profile run (events_to None run) ended change → IsWatchedRun rules request profile run ended change
 
 -- A run is watched by the rules of a policy, if there is one; else it ends before the trap that it is to stop at.

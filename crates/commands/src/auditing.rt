@@ -19,7 +19,7 @@ use crate::writing::{Nowhere, Writing};
 use command_line::RunRequest;
 use image::write_all;
 use machine::Machine;
-use policy_audit::{audit_run, entries_run, rule_lines};
+use policy_audit::{Report, audit_run, entries_run, rule_lines};
 use std::alloc::Global;
 use std::io::Write;
 
@@ -37,18 +37,22 @@ fn audit_policy<'a>(
     rules: &Rules,
 ) -> Result<Audited, ProgramFault<'a>>
     requires { IsRunnable run.now.schedule }
-    ensures ok { IfOk result (Audits rules.now (run_of run.now)) }
+    ensures ok { IfOk result (Audits run.now.request.json rules.now (run_of run.now)) }
     ensures err { IfErr result IsNoMemory }
 {
     let mut machine: ProgramMachine = Machine::new(alloc, &run.image)?;
     let lines = rule_lines(alloc, &rules.text, &rules.policy.lines)?;
+    let report = Report {
+        symbols: &run.table,
+        lines: &lines,
+        json: run.request.json,
+    };
     let mut text = String::new(alloc);
     let count = audit_run(
         &mut text,
         alloc,
-        &run.table,
+        &report,
         &rules.policy.rules,
-        &lines,
         &mut machine,
         run.schedule,
         &run.input,
@@ -59,19 +63,27 @@ fn audit_policy<'a>(
 /// Lists what the code in each range that a run enters can do, as rules.
 fn list_entries<'a>(alloc: Global, run: &LoadedRun<'_>) -> Result<Audited, ProgramFault<'a>>
     requires { IsRunnable run.now.schedule }
-    ensures ok { IfOk result (ListsEntries (run_of run.now)) }
+    ensures ok { IfOk result (ListsEntries run.now.request.json (run_of run.now)) }
     ensures err { IfErr result IsNoMemory }
 {
     let mut machine: ProgramMachine = Machine::new(alloc, &run.image)?;
     let mut text = String::new(alloc);
-    entries_run(&mut text, alloc, &mut machine, run.schedule, &run.input)?;
+    let json = run.request.json;
+    entries_run(
+        &mut text,
+        alloc,
+        json,
+        &mut machine,
+        run.schedule,
+        &run.input,
+    )?;
     Ok(Audited { text, count: 0 })
 }
 
 /// Audits a run by its policy, or lists its entries where it has none.
 fn audit_loaded<'a>(alloc: Global, run: &LoadedRun<'_>) -> Result<Audited, ProgramFault<'a>>
     requires { IsRunnable run.now.schedule }
-    ensures ok { IfOk result (AuditsBy run.now.rules (run_of run.now)) }
+    ensures ok { IfOk result (AuditsBy run.now.request.json run.now.rules (run_of run.now)) }
     ensures err { IfErr result IsNoMemory }
 {
     match &run.rules {

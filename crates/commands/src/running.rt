@@ -5,7 +5,7 @@ ghost use Rattle.std.specs.Io.Buffered.{line_writer_contents, writer_contents};
 ghost use Rattle.std.specs.Io.KnownBytes.{Keeps};
 ghost use Rattle.hart.specs.Opening.{opening};
 ghost use Rattle.schedules.specs.Schedule.{IsPlaceOf, IsRunnable, steps_in};
-ghost use Rattle.sim_run.specs.Trace.{lines_past, trace_text};
+ghost use Rattle.sim_run.specs.Trace.{lines_past, says_by, trace_text};
 ghost use Rattle.symbols.specs.Symbols.{Symbol};
 ghost use Rattle.commands.specs.declared.fault.ProgramFault.TheVariants as program;
 ghost use Rattle.commands.specs.Files.{Closes, Gains, IsNew, IsNoMemory, IsUnfinished, IsUnsent, IsUnsentOrNoMemory, IsUnwritten, begun};
@@ -13,7 +13,7 @@ ghost use Rattle.commands.specs.Files.{changed, whole};
 ghost use Rattle.commands.specs.Loading.{IsReady, events_to, run_of, state_after};
 ghost use Rattle.commands.specs.RunFaults.{FailsFreely, FailsToTrace, FailsTraced, IsFirstFault};
 ghost use Rattle.commands.specs.Running.{HasEnded, HasRun, Runs, RunsFreely, Sends, Traces, Writes};
-ghost use Rattle.commands.specs.Running.{events_of, first_run, is_told, place_lines, stop_at, stops, trace_of};
+ghost use Rattle.commands.specs.Running.{events_of, first_run, is_told, place_lines, place_objects, place_of, stop_at, stops, trace_of};
 
 use crate::fault::ProgramFault;
 use crate::files::{Folder, make_file};
@@ -25,8 +25,8 @@ use image::{DeviceFailed, Image};
 use machine::{End, Machine};
 use schedules::Schedule;
 use sim_run::{
-    Ran, StopAt, TraceFault, count_steps, ending_lines, find_stop, lines_skipped, run_before,
-    run_traced_before, stopped_lines,
+    Form, Ran, StopAt, TraceFault, count_steps, ending_lines, ending_object, find_stop,
+    lines_skipped, run_before, run_traced_before, stopped_lines, stopped_objects,
 };
 use std::alloc::{AllocError, Global};
 use std::io::{BufWriter, LineWriter, Write};
@@ -54,6 +54,7 @@ const FIRST_RUN: RunRequest<'static> = RunRequest {
     tick: 100,
     input: None,
     quiet: false,
+    json: false,
     trace: None,
     trace_from: 1,
     trace_last: None,
@@ -130,6 +131,55 @@ fn place(
     }
 }
 
+/// The objects that say where a run ended, which left this machine: before the step of a number, where one is given.
+fn place_objects(
+    alloc: Global,
+    run: &LoadedRun<'_>,
+    stop: Option<u64>,
+    machine: &ProgramMachine,
+    ran: Ran,
+) -> Result<String, AllocError>
+    requires range { IsRunnable run.now.schedule }
+    requires ran { HasRun (run_of run.now) (events_to stop (run_of run.now)) machine.now ran }
+    ensures { IfOk result (λ text. string_bytes text
+        ≡ place_objects (run_of run.now) (is_some stop) (events_to stop (run_of run.now))) }
+{
+    match stop {
+        Some(_) => stopped_objects(alloc, &run.table, machine, ran),
+        None => ending_object(
+            alloc,
+            &run.table,
+            &run.image,
+            run.schedule,
+            &run.input,
+            machine,
+            ran,
+        ),
+    }
+}
+
+/// What is told of where a run ended, which left this machine: objects where they are asked for, else lines, unless these are left out.
+fn told(
+    alloc: Global,
+    run: &LoadedRun<'_>,
+    stop: Option<u64>,
+    machine: &ProgramMachine,
+    ran: Ran,
+) -> Result<String, AllocError>
+    requires range { IsRunnable run.now.schedule }
+    requires ran { HasRun (run_of run.now) (events_to stop (run_of run.now)) machine.now ran }
+    ensures { IfOk result (λ text. string_bytes text ≡ place_of (run_of run.now) run.now.request.json run.now.request.quiet
+        (is_some stop) (events_to stop (run_of run.now))) }
+{
+    if run.request.json {
+        place_objects(alloc, run, stop, machine, ran)
+    } else if is_told(ran.end, run.request.quiet) {
+        place(alloc, run, stop, machine, ran)
+    } else {
+        Ok(String::new(alloc))
+    }
+}
+
 /// How a run ended, which left this machine, and where.
 fn ending<'a>(
     alloc: Global,
@@ -140,18 +190,14 @@ fn ending<'a>(
 ) -> Result<Ended, ProgramFault<'a>>
     requires range { IsRunnable run.now.schedule }
     requires ran { HasRun (run_of run.now) (events_to stop (run_of run.now)) machine.now ran }
-    ensures ok { IfOk result (HasEnded (run_of run.now) run.now.request.quiet (is_some stop) (events_to stop (run_of run.now))) }
+    ensures ok { IfOk result (HasEnded (run_of run.now) run.now.request.json run.now.request.quiet (is_some stop)
+        (events_to stop (run_of run.now))) }
     ensures err { IfErr result (λ fault. fault ≡ program.Memory) }
 {
     let end = ran.end;
-    if is_told(end, run.request.quiet) {
-        match place(alloc, run, stop, machine, ran) {
-            Ok(place) => Ok(Ended { end, place }),
-            Err(_) => Err(ProgramFault::Memory),
-        }
-    } else {
-        let place = String::new(alloc);
-        Ok(Ended { end, place })
+    match told(alloc, run, stop, machine, ran) {
+        Ok(place) => Ok(Ended { end, place }),
+        Err(_) => Err(ProgramFault::Memory),
     }
 }
 
@@ -256,21 +302,26 @@ fn trace_machine<'a, F: Folder, O: Write + Drop>(
     ensures ran { IfOk result (λ left. HasRun (run_of run.now) (events_to trace.entry.stop (run_of run.now)) left.0 left.1) }
     ensures sent { IfOk result (λ left.
         Sends (run_of run.now) (events_to trace.entry.stop (run_of run.now)) (O.contents output) (O.contents left.2)) }
-    ensures files { OnOk result (Gains (F.files folder.old) (F.files folder.new) (whole trace.entry.name.now (lines_past run.now.table
+    ensures files { OnOk result (Gains (F.files folder.old) (F.files folder.new) (whole trace.entry.name.now (lines_past (says_by run.now.request.json run.now.table)
         trace.entry.skipped 0 (events_to trace.entry.stop (run_of run.now)) (opening run.now.image)))) }
-    ensures err { IfErr result (FailsTraced trace.entry.name.now (lines_past run.now.table trace.entry.skipped 0
+    ensures err { IfErr result (FailsTraced trace.entry.name.now (lines_past (says_by run.now.request.json run.now.table) trace.entry.skipped 0
         (events_to trace.entry.stop (run_of run.now)) (opening run.now.image)) (F.files folder.old) (F.files folder.new)) }
 {
     let mut machine: ProgramMachine = Machine::new(alloc, &run.image)?;
     let mut lines = Writing::new(make_trace(alloc, folder, trace.name)?);
     let mut sink = Writing::new(output);
+    let form = Form {
+        alloc,
+        symbols: &run.table,
+        json: run.request.json,
+    };
     match run_traced_before(
         &mut machine,
         run.schedule,
         &run.input,
         trace.stop,
         trace.skipped,
-        &run.table,
+        form,
         &mut sink,
         &mut lines,
     ) {
@@ -287,6 +338,10 @@ fn trace_machine<'a, F: Folder, O: Write + Drop>(
             drop(lines.into_inner().into_parts());
             Err(ProgramFault::CutShort(trace.name))
         }
+        Err(TraceFault::Memory) => {
+            drop(lines.into_inner().into_parts());
+            Err(ProgramFault::Memory)
+        }
     }
 }
 
@@ -300,7 +355,7 @@ fn skipped<'a>(
     requires range { IsRunnable run.now.schedule }
     requires stop { IfSome stop (IsPlaceOf run.now.schedule) }
     ensures ok { IfOk result (λ skipped. trace_of run.now.request (run_of run.now) (events_to stop (run_of run.now))
-        ≡ lines_past run.now.table skipped 0 (events_to stop (run_of run.now)) (opening run.now.image)) }
+        ≡ lines_past (says_by run.now.request.json run.now.table) skipped 0 (events_to stop (run_of run.now)) (opening run.now.image)) }
     ensures err { IfErr result IsNoMemory }
 {
     let from = run.request.trace_from;
@@ -398,7 +453,7 @@ pub fn run_whole<'a, O: Write + Drop>(
     output: O,
 ) -> Result<(Ended, O), ProgramFault<'a>>
     requires { IsRunnable run.now.schedule }
-    ensures ok { IfOk result (λ done. Runs (run_of run.now) None run.now.request.quiet done.0 (O.contents output) (O.contents done.1)) }
+    ensures ok { IfOk result (λ done. Runs (run_of run.now) None run.now.request.json run.now.request.quiet done.0 (O.contents output) (O.contents done.1)) }
     ensures err { IfErr result IsUnsentOrNoMemory }
 {
     let (machine, ran, output) = run_machine(alloc, run, None, output)?;
@@ -411,7 +466,7 @@ pub fn run_first<'a, O: Write + Drop>(
     alloc: Global,
     output: O,
 ) -> Result<(Ended, O), ProgramFault<'a>>
-    ensures ok { IfOk result (λ done. Runs first_run None false done.0 (O.contents output) (O.contents done.1)) }
+    ensures ok { IfOk result (λ done. Runs first_run None false false done.0 (O.contents output) (O.contents done.1)) }
     ensures err { IfErr result IsFirstFault }
 {
     let image = Image::build(alloc, 1, ENTRY, 0, &[(ENTRY, &FIRST)])?;

@@ -6,22 +6,52 @@ ghost use Rattle.schedules.specs.Schedule.{IsRunnable};
 ghost use Rattle.commands.specs.Files.{IsNoMemory, changed};
 ghost use Rattle.commands.specs.Loading.{AreNumbered, IsReady, run_of};
 ghost use Rattle.commands.specs.RunFaults.{FailsBy, FailsWatched};
-ghost use Rattle.commands.specs.Watching.{IsStopOf, IsWatchedRun, RunsBy, TellsRefused};
+ghost use Rattle.commands.specs.Watching.{IsStopOf, IsWatchedRun, RunsBy, TellsRefused, is_silent, refused_by};
 
 use crate::fault::ProgramFault;
 use crate::files::Folder;
 use crate::loading::{LoadedRun, Rules};
 use crate::profiling::run_profiled;
 use crate::running::{Ended, ProgramMachine, run_freely};
-use breach_texts::refused_lines;
+use breach_texts::{RuleLine, refused_lines, refused_object};
 use machine::Machine;
+use policy::Refused;
 use policy_audit::rule_line;
 use policy_runs::{Breach, find_breach};
 use sim_run::StopAt;
-use std::alloc::Global;
+use std::alloc::{AllocError, Global};
 use std::io::Write;
+use symbols::Symbols;
 
-/// The lines that say where a policy stopped a run, none where it is quiet.
+/// Whether nothing is told of where a run is stopped: where it is quiet, and no object is asked for.
+fn is_silent(json: bool, quiet: bool) -> bool
+    ensures { result ≡ is_silent json quiet }
+{
+    !json && quiet
+}
+
+/// Where a rule stopped a run before its next step, after so many: as an object, or in words.
+fn refused_by(
+    alloc: Global,
+    json: bool,
+    table: &Symbols,
+    machine: &ProgramMachine,
+    rule: RuleLine<'_>,
+    refused: Refused,
+    steps: u64,
+) -> Result<String, AllocError>
+    requires { refused.member < length (members_in machine.now) }
+    ensures { IfOk result (λ text. string_bytes text
+        ≡ refused_by json table.now rule.entry.number rule.entry.text.now refused steps machine.now) }
+{
+    if json {
+        refused_object(alloc, machine, table, rule, refused, steps)
+    } else {
+        refused_lines(alloc, machine, table, rule, refused, steps)
+    }
+}
+
+/// The lines that say where a policy stopped a run, none where it is silent.
 fn stop_lines<'a>(
     alloc: Global,
     run: &LoadedRun<'_>,
@@ -32,19 +62,20 @@ fn stop_lines<'a>(
     requires place { 1 ≤ breach.number }
     requires rule { breach.refused.rule < vec_len rules.now.policy.lines }
     requires member { breach.refused.member < length (members_in machine.now) }
-    ensures quiet { run.now.request.quiet ≡ true → IfOk result (λ text. string_bytes text ≡ []) }
-    ensures told { run.now.request.quiet ≡ false → IfOk result (λ text.
-        TellsRefused rules.now run.now.table breach.refused breach.number machine.now (string_bytes text)) }
+    ensures silent { is_silent run.now.request.json run.now.request.quiet ≡ true → IfOk result (λ text. string_bytes text ≡ []) }
+    ensures told { is_silent run.now.request.json run.now.request.quiet ≡ false → IfOk result (λ text.
+        TellsRefused run.now.request.json rules.now run.now.table breach.refused breach.number machine.now (string_bytes text)) }
     ensures err { IfErr result IsNoMemory }
 {
-    if run.request.quiet {
+    let json = run.request.json;
+    if is_silent(json, run.request.quiet) {
         return Ok(String::new(alloc));
     }
     let refused = breach.refused;
     let number = rules.policy.lines[refused.rule];
     let rule = rule_line(&rules.text, number);
     let steps = breach.number - 1;
-    match refused_lines(alloc, machine, &run.table, rule, refused, steps) {
+    match refused_by(alloc, json, &run.table, machine, rule, refused, steps) {
         Ok(text) => Ok(text),
         Err(_) => Err(ProgramFault::Memory),
     }
@@ -65,7 +96,7 @@ fn stop_of<'a>(
 ) -> Result<Option<Stop>, ProgramFault<'a>>
     requires numbered { AreNumbered rules.now }
     requires range { IsRunnable run.now.schedule }
-    ensures ok { IfOk result (IsStopOf rules.now (run_of run.now) run.now.request.quiet) }
+    ensures ok { IfOk result (IsStopOf rules.now (run_of run.now) run.now.request.json run.now.request.quiet) }
     ensures err { IfErr result IsNoMemory }
 {
     let mut machine: ProgramMachine = Machine::new(alloc, &run.image)?;

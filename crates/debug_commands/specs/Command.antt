@@ -212,6 +212,14 @@ command_among fault symbols [] name operands = Err fault
 command_among fault symbols (l ∷ ls) name operands =
     if is_word name l.name then said_by symbols l.operands operands else command_among fault symbols ls name operands
 
+-- what may follow `why`: nothing, or a word
+abbrev pub reasons : List Line
+reasons = choice (codes "json") (nothing (Shows view.WhyObjects)) ∷ []
+
+abbrev pub why_of : List Symbol → List (List ℕ) → Result Command DebugFault
+why_of symbols [] = Ok (Shows view.Why)
+why_of symbols (word ∷ operands) = command_among B2 symbols reasons word operands
+
 -- what may follow `reach`: nothing, or a word
 abbrev pub reaches : List Line
 reaches =
@@ -282,7 +290,7 @@ of_states help =
     ∷ line (codes "caps") [] (codes "caps") (nothing (Shows view.Capabilities))
     ∷ line (codes "mem") (codes " ADDR [LEN]") (codes "mem 0x80000000 64") (place 16 1 4096 (λ address n. Shows (view.Memory address n)))
     ∷ line (codes "dis") (codes " [ADDR [N]]") (codes "dis 0x80000000 4") (a_verb dis_of)
-    ∷ line (codes "why") [] (codes "why") (nothing (Shows view.Why))
+    ∷ line (codes "why") (codes " [json]") (codes "why json") (a_verb why_of)
     ∷ line (codes "reach") (codes " [members|dot|json|doors]") (codes "reach doors") (a_verb reach_of)
     ∷ line (codes "may")
     (codes " store|load|execute|learn ADDR LEN [through doors]\nmay keep [ADDR LEN] [through doors]\n"

@@ -77,6 +77,8 @@ pub enum View {
     WordsAtPcc(u64),
     /// What the next step will do, and why.
     Why,
+    /// The same as objects of JSON, one a line.
+    WhyObjects,
     /// What the code that runs from here on can reach, in sum.
     Reach(Horizon),
     /// Each capability of it, with where it was found.

@@ -82,7 +82,7 @@ macro_rules! of_states {
             "mem" (" ADDR [LEN]", "mem 0x80000000 64") (place BYTES_UNASKED 1 MOST_SHOWN)
                 p => Command::Shows(View::Memory { address: p.0, count: p.1 });
             "dis" (" [ADDR [N]]", "dis 0x80000000 4") (verb dis_of) n => ();
-            "why" ("", "why") (nothing) n => Command::Shows(View::Why);
+            "why" (" [json]", "why json") (verb why_of) n => ();
             "reach" (" [members|dot|json|doors]", "reach doors") (verb reach_of) n => ();
             "may" (" store|load|execute|learn ADDR LEN [through doors]\n\
                 may keep [ADDR LEN] [through doors]\n\
@@ -95,7 +95,16 @@ macro_rules! of_states {
     };
 }
 
-// What may follow `reach`, `may`, `stop` and `help`: a word, and then operands as a command has them.
+// What may follow `why`, `reach`, `may`, `stop` and `help`: a word, and then operands as a command has them.
+macro_rules! reasons {
+    ($reading:ident $($what:tt)*) => {
+        $reading! {
+            $($what)*;
+            "json" () (nothing) n => Command::Shows(View::WhyObjects);
+        }
+    };
+}
+
 macro_rules! reaches {
     ($reading:ident $($what:tt)*) => {
         $reading! {
@@ -295,6 +304,17 @@ fn alone(operands: &[u8], command: Command) -> Result<Command, DebugFault>
         Some(_) => Err(DebugFault::B2),
         None => Ok(command),
     }
+}
+
+/// The command of what follows `why`, over a table of labels, or B2.
+fn why_of(symbols: &Symbols, operands: &[u8]) -> Result<Command, DebugFault>
+    ensures value { result ≡ spec.why_of symbols.now (words_of operands.now) }
+    ensures limits { IfOk result IsWithinLimits }
+{
+    let Some((word, rest)) = split_word(operands) else {
+        return Ok(Command::Shows(View::Why));
+    };
+    reasons!(named word symbols rest (Err(DebugFault::B2)))
 }
 
 /// The command of what follows `reach`, over a table of labels, or B2.

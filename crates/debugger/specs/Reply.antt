@@ -15,6 +15,7 @@ use Rattle.steps.specs.declared.event.Event.TheVariants as event
 use Rattle.steps.specs.State.{State, pc_of}
 use Rattle.registers.specs.Registers.{register}
 use Rattle.machine.specs.Run.{run_after, run_sent}
+use Rattle.explain.specs.WhyObjects.{why_objects}
 use Rattle.explain.specs.WhyText.{why_text}
 use Rattle.asm_names.specs.Registers.{capability_names, register_name}
 use Rattle.asm_names.specs.SpecialNames.{scr_name}
@@ -298,6 +299,7 @@ view_text symbols stops (view.Memory address n) s = byte_lines n address (bytes_
 view_text symbols stops (view.Words address n) s = word_lines symbols (value_flag s.scrs.pcc) s.memory n address
 view_text symbols stops (view.WordsAtPcc n) s = word_lines symbols (value_flag s.scrs.pcc) s.memory n (pc_of s)
 view_text symbols stops view.Why s = why_text symbols s
+view_text symbols stops view.WhyObjects s = why_objects symbols s
 view_text symbols stops (view.Reach horizon) s = reach_reply horizon symbols s
 view_text symbols stops view.ReachMembers s = members_reply symbols s
 view_text symbols stops view.ReachGraph s = graph_reply symbols s

@@ -22,7 +22,7 @@ use crate::stops::{append_stops, set_stops};
 use crate::timeline::Timeline;
 use cap_bounds::CapRep;
 use debug_commands::{Command, DebugFault, Events, Recall, Stop, View, about_line, help_text};
-use explain::put_why;
+use explain::{put_why, put_why_objects};
 use machine::Machine;
 use origins::Place;
 use std::alloc::{AllocError, Global};
@@ -146,6 +146,7 @@ fn append_view<C: CapRep>(
         }
         View::WordsAtPcc(count) => append_words_at_pcc(text, symbols, machine, count),
         View::Why => put_why(text, symbols, machine.hart()),
+        View::WhyObjects => put_why_objects(text, symbols, machine.hart()),
         View::Reach(horizon) => append_reach(text, alloc, symbols, machine.hart(), horizon),
         View::ReachMembers => append_members(text, alloc, symbols, machine.hart()),
         View::ReachGraph => append_graph(text, alloc, symbols, machine.hart()),

@@ -1,9 +1,8 @@
 -- Texts of stages, one after another.
-use Rattle.std.proofs.Common.{◌≡◌, ℕ, Bool, true, false, List, [], ◌∷◌, ◌++◌, Option, Some, None, Ok, Err, refl, ap, sym, ◌∙◌, append_assoc}
+use Rattle.std.proofs.Common.{◌≡◌, ℕ, Bool, true, false, List, [], ◌∷◌, ◌++◌, Option, Some, None, refl, ap, sym, ◌∙◌, append_assoc}
 use Rattle.std.proofs.Common.{append-nil}
 use Rattle.std.specs.Prelude.{is_some, codes}
 use Rattle.std.specs.List.{flat_map}
-use Rattle.base.specs.declared.fault.Fault.{Fault}
 use Rattle.base.specs.Registers.{pcc_register}
 use Rattle.base.specs.declared.cause.Cause.{Cause}
 use Rattle.base.specs.declared.cause.CheriCause.{CheriCause}

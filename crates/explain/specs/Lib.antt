@@ -6,6 +6,9 @@ pub mod TraceLine
 pub mod WordLine
 pub mod Asked
 pub mod WhyText
+pub mod StepFields
+pub mod WhyObjects
+pub mod TraceObject
 pub mod StandingText
 -- Laws
 pub mod AskedLaws

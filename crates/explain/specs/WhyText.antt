@@ -95,9 +95,13 @@ capability_lines other conditions s = capability_line s pcc_register
 
 -- ---- conditions
 
--- what a capability must allow, and the register that holds it
+-- what a capability must allow
+abbrev pub asked_name : CheriCause → List ℕ
+asked_name what = name_or [] (cheri_asked_name (cheri_number_of what))
+
+-- that, and the register that holds it
 abbrev pub name_text : ℕ → CheriCause → List ℕ
-name_text register what = name_or [] (cheri_asked_name (cheri_number_of what)) ++ codes " of " ++ register_text register
+name_text register what = asked_name what ++ codes " of " ++ register_text register
 
 -- the bytes that are asked for, and the capability's bounds
 abbrev pub bounds_text : List Symbol → ℕ → ℕ → CapValue → List ℕ

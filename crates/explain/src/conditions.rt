@@ -3,7 +3,7 @@ ghost use Rattle.std.specs.Prelude.{◌≡◌, ◌++◌, IsTrue, OnOk, string_by
 ghost use Rattle.symbols.specs.Labels.{labelled};
 ghost use Rattle.texts.specs.Piece.{text_of, are_narrow};
 ghost use Rattle.explain.specs.WhyText.{register_text, capability_in, capability_line, fields_text};
-ghost use Rattle.explain.specs.WhyText.{name_text, question_text, bounds_text, mark, condition_line, condition_lines};
+ghost use Rattle.explain.specs.WhyText.{asked_name, name_text, question_text, bounds_text, mark, condition_line, condition_lines};
 
 use crate::value::value_text;
 use asm_names::{cheri_asked_name, register_at_fault};
@@ -19,7 +19,7 @@ use texts::Piece::{self, Text};
 use texts::{append, pieces};
 
 /// The capability in a register: 0 to 31 general, 32 and its number special. Null where there is no such register.
-fn capability_in<C: CapRep>(hart: &Hart<C>, register: u64) -> C
+pub(crate) fn capability_in<C: CapRep>(hart: &Hart<C>, register: u64) -> C
     ensures { C.value result ≡ capability_in hart.now register }
 {
     if register < FIRST_SPECIAL {
@@ -32,7 +32,7 @@ fn capability_in<C: CapRep>(hart: &Hart<C>, register: u64) -> C
 }
 
 /// The name of a register; nothing where there is none.
-fn register_name(register: u64) -> &'static str
+pub(crate) fn register_name(register: u64) -> &'static str
     ensures { result.now ≡ register_text register }
 {
     register_at_fault(register).unwrap_or("")
@@ -78,13 +78,23 @@ pub(crate) fn append_at(
     append(text, &[Text(before), Text(place.as_str())])
 }
 
+/// What is asked of a capability.
+pub(crate) fn asked_name(cause: CheriCause) -> &'static str
+    ensures { result.now ≡ asked_name cause }
+{
+    cheri_asked_name(cause.number()).unwrap_or("")
+}
+
 /// What is asked of a capability, and its register.
 fn name(register: u64, cause: CheriCause) -> [Piece<'static>; 3]
     ensures text { text_of result ≡ name_text register cause }
     ensures narrow { IsTrue (are_narrow result) }
 {
-    let asked = cheri_asked_name(cause.number()).unwrap_or("");
-    [Text(asked), Text(" of "), Text(register_name(register))]
+    [
+        Text(asked_name(cause)),
+        Text(" of "),
+        Text(register_name(register)),
+    ]
 }
 
 /// Appends the bytes that are asked for, and a capability's bounds, addresses with their labels, to a text.

@@ -58,7 +58,7 @@ fn append_sized(
 }
 
 /// PCC's address.
-fn here<C: CapRep>(hart: &Hart<C>) -> u64
+pub(crate) fn here<C: CapRep>(hart: &Hart<C>) -> u64
     ensures { result ≡ pc_of hart.now }
 {
     hart.scrs().pcc().address()

@@ -17,7 +17,7 @@ use texts::append;
 
 /// The word at an address in RAM.
 #[tactic(auto, unfolding(tagged_memory::specs::Memory::place_fault))]
-fn word_at(memory: &Memory, address: u64) -> u32
+pub(crate) fn word_at(memory: &Memory, address: u64) -> u32
     requires aligned { address % 4 ≡ 0 }
     requires inside { is_in_ram memory.now address 4 ≡ true }
     ensures { result ≡ number_at memory.now address 4 }

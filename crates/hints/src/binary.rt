@@ -39,11 +39,15 @@ fn has_bytes(line: &[u8], bytes: &[u8]) -> bool {
 
 /// What is said of a line with a byte that is no part of a text.
 pub(crate) fn foreign(line: &[u8]) -> Option<&'static str> {
-    match BEGINNINGS.iter().find(|row| line.starts_with(row.0)) {
-        Some(row) => Some(row.1),
-        None => CHARACTERS
-            .iter()
-            .find(|row| has_bytes(line, row.0))
-            .map(|row| row.1),
+    for row in BEGINNINGS {
+        if line.starts_with(row.0) {
+            return Some(row.1);
+        }
     }
+    for row in CHARACTERS {
+        if has_bytes(line, row.0) {
+            return Some(row.1);
+        }
+    }
+    None
 }

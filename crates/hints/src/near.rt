@@ -87,15 +87,20 @@ pub(crate) fn register_near(word: &[u8]) -> Option<&'static str> {
 
 /// The first control and status register that a word is near.
 pub(crate) fn csr_near(word: &[u8]) -> Option<&'static str> {
-    CSRS.iter()
-        .map(|register| register.1)
-        .find(|name| is_near(word, name.as_bytes()))
+    for register in &CSRS {
+        if is_near(word, register.1.as_bytes()) {
+            return Some(register.1);
+        }
+    }
+    None
 }
 
 /// The first special capability register that a word is near.
 pub(crate) fn scr_near(word: &[u8]) -> Option<&'static str> {
-    SPECIAL_REGISTERS
-        .iter()
-        .map(|register| register.1)
-        .find(|name| is_near(word, name.as_bytes()))
+    for register in &SPECIAL_REGISTERS {
+        if is_near(word, register.1.as_bytes()) {
+            return Some(register.1);
+        }
+    }
+    None
 }

@@ -50,9 +50,10 @@ fn expanded(alloc: Global, template: &[u8], faulty: Faulty<'_>) -> Result<Vec<u8
 
 /// Whether an expression is the name of a register, which a label is hardly given.
 fn is_register(value: Expression<'_>) -> bool {
-    value
-        .name
-        .is_some_and(|name| register_named(name).is_some())
+    match value.name {
+        Some(name) => register_named(name).is_some(),
+        None => false,
+    }
 }
 
 /// Whether the assembler reads a line, as far as that doesn't hang on others.

@@ -110,13 +110,14 @@ pub(crate) fn reckoned(text: &[u8]) -> Option<&'static str> {
 
 /// What is said of the operand of `.ascii`.
 pub(crate) fn unquoted(operands: &[u8]) -> Option<&'static str> {
-    if !operands.starts_with(b"\"") {
-        Some("a text stands in double quotes")
-    } else if !operands[1..].ends_with(b"\"") {
-        Some("a text ends with a double quote")
-    } else if operands.contains(&b'\\') {
-        Some("the escapes are \\n, \\0, \\\\ and \\\"")
-    } else {
-        Some("a line has one text, and a quote in it is written \\\"")
+    match operands {
+        [b'"', rest @ ..] => Some(if !rest.ends_with(b"\"") {
+            "a text ends with a double quote"
+        } else if rest.contains(&b'\\') {
+            "the escapes are \\n, \\0, \\\\ and \\\""
+        } else {
+            "a line has one text, and a quote in it is written \\\""
+        }),
+        _ => Some("a text stands in double quotes"),
     }
 }

@@ -274,10 +274,12 @@ pub(crate) const OTHER_MNEMONICS: [&'static str; 19] = [
 
 /// What is said of a word by the first row that lists it.
 pub(crate) fn row_of(table: &[Row], word: &[u8]) -> Option<&'static str> {
-    table
-        .iter()
-        .find(|row| is_listed(row.0, word))
-        .map(|row| row.1)
+    for row in table {
+        if is_listed(row.0, word) {
+            return Some(row.1);
+        }
+    }
+    None
 }
 
 /// Whether a word is one of those of a list with blanks between.
@@ -287,15 +289,19 @@ pub(crate) fn is_listed(list: &str, word: &[u8]) -> bool {
         .any(|name| name == word)
 }
 
+/// Whether a word begins with one of those of a list with blanks between.
+fn begins_as_listed(list: &str, word: &[u8]) -> bool {
+    list.as_bytes()
+        .split(|byte| *byte == b' ')
+        .any(|beginning| word.starts_with(beginning))
+}
+
 /// What is said of the words that begin as a row says.
 pub(crate) fn family_of(table: &[Row], word: &[u8]) -> Option<&'static str> {
-    table
-        .iter()
-        .find(|row| {
-            row.0
-                .as_bytes()
-                .split(|byte| *byte == b' ')
-                .any(|beginning| word.starts_with(beginning))
-        })
-        .map(|row| row.1)
+    for row in table {
+        if begins_as_listed(row.0, word) {
+            return Some(row.1);
+        }
+    }
+    None
 }

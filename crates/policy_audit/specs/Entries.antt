@@ -1,7 +1,7 @@
--- What a run enters: ranges of code, that is PCC's bounds, and what the code in each could do when it was entered, as lines of a policy.
+-- What a run enters: ranges of code, that is PCC's bounds, and what the code in each could do when it was entered, as rules of a policy.
 use Rattle.std.specs.Prelude.{ℕ, ◌-◌, ◌^◌, Bool, true, not, ◌&&◌, ◌||◌, ◌==◌, nat_lt, if◌then◌else◌, List, [], ◌∷◌, ◌++◌}
 use Rattle.std.specs.Prelude.{Option, Some, None, bytes_eq, codes, decimal}
-use Rattle.std.specs.List.{concat, flat_map, list_any}
+use Rattle.std.specs.List.{flat_map, list_any}
 use Rattle.cap_bounds.specs.CapValue.{CapValue}
 use Rattle.devices.specs.Devices.{halt, timer_compare, transmit}
 use Rattle.texts.specs.Hex.{hex_of}
@@ -14,6 +14,7 @@ use Rattle.reach.specs.Ranges.{bounds_of, ranges_of}
 use Rattle.policy.specs.Watch.{values_in}
 use Rattle.cap_rights.specs.Opens.{opens_store, opens_system}
 use Rattle.policy.specs.Opened.{entered_by, opens_types, types_with}
+use Rattle.policy_audit.specs.Object.{rule_object}
 use Rattle.policy_audit.specs.Told.{told}
 
 -- ---- ranges
@@ -68,7 +69,7 @@ types_text (t ∷ ts) = flat_map next_type (t ∷ ts)
 unfoldable pub types_part : List CapValue → List ℕ
 types_part vs = codes ", types" ++ types_text (types_with [] vs)
 
--- ---- lines
+-- ---- rules
 
 unfoldable pub code_part : Range → List ℕ
 code_part code = codes "when pc in " ++ range_text code ++ codes ": "
@@ -78,15 +79,15 @@ ranges_part vs =
     bytes_part (codes "store") Store vs ++ bytes_part (codes ", load") Load vs ++ bytes_part (codes ", execute") Execute vs
     ++ bytes_part (codes ", keep") Keep vs ++ enter_part vs
 
-unfoldable pub entry_line : Range → List CapValue → List ℕ
-entry_line code vs = code_part code ++ ranges_part vs ++ rights_part vs ++ types_part vs ++ codes "\n"
+unfoldable pub entry_rule : Range → List CapValue → List ℕ
+entry_rule code vs = code_part code ++ ranges_part vs ++ rights_part vs ++ types_part vs
 
 -- ---- entries
 
--- what is remembered: PCC's bounds before the last step, if there was one, and the lines so far
+-- what is remembered: PCC's bounds before the last step, if there was one, and the rules so far
 pub record Entered : Type 0 where
   pub code : Option Range
-  pub lines : List (List ℕ)
+  pub rules : List (List ℕ)
 
 -- whether a range of code is entered: it has an address, and is not the one before
 abbrev pub is_other : Option Range → Range → Bool
@@ -96,21 +97,29 @@ is_other (Some last) code = not (last.from == code.from && last.to == code.to)
 abbrev pub is_entered : Option Range → Range → Bool
 is_entered last code = nat_lt code.from code.to && is_other last code
 
--- a line, if it is not among those so far
-abbrev pub new_line : List (List ℕ) → List ℕ → List (List ℕ)
-new_line lines line = if list_any (λ l. bytes_eq l line) lines then [] else line ∷ []
+-- a rule, if it is not among those so far
+abbrev pub new_rule : List (List ℕ) → List ℕ → List (List ℕ)
+new_rule rules rule = if list_any (λ r. bytes_eq r rule) rules then [] else rule ∷ []
 
--- the line of an entry, or none
-unfoldable pub entry_lines : Entered → State → List (List ℕ)
-entry_lines e s =
-    if is_entered e.code (bounds_of s.scrs.pcc) then new_line e.lines (entry_line (bounds_of s.scrs.pcc) (values_in s)) else []
+-- the rule of an entry, or none
+unfoldable pub entry_rules : Entered → State → List (List ℕ)
+entry_rules e s =
+    if is_entered e.code (bounds_of s.scrs.pcc) then new_rule e.rules (entry_rule (bounds_of s.scrs.pcc) (values_in s)) else []
 
-abbrev pub says_entry : Entered → ℕ → State → List ℕ
-says_entry e step s = concat (entry_lines e s)
+-- the line of a rule, as an object or as a policy has it
+unfoldable pub rule_told : Bool → List ℕ → List ℕ
+rule_told json rule = if json then rule_object rule else rule ++ codes "\n"
+
+abbrev pub says_entry : Bool → Entered → ℕ → State → List ℕ
+says_entry json e step s = flat_map (rule_told json) (entry_rules e s)
 
 abbrev pub adds_entry : Entered → State → Entered
-adds_entry e s = record { code = Some (bounds_of s.scrs.pcc); lines = e.lines ++ entry_lines e s }
+adds_entry e s = record { code = Some (bounds_of s.scrs.pcc); rules = e.rules ++ entry_rules e s }
+
+-- what is remembered before the first step
+abbrev pub none_entered : Entered
+none_entered = record { code = None; rules = [] }
 
 -- the lines of a run's entries, each once
-abbrev pub entries_text : List Event → State → List ℕ
-entries_text events s = told says_entry adds_entry 0 events (record { code = None; lines = [] }) s
+abbrev pub entries_text : Bool → List Event → State → List ℕ
+entries_text json events s = told (says_entry json) adds_entry 0 events none_entered s

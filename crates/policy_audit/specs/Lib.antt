@@ -3,6 +3,7 @@ pub mod Found
 pub mod Lines
 pub mod Told
 pub mod Text
+pub mod Object
 pub mod Entries
 -- Inner words
 pub mod Look

@@ -4,4 +4,4 @@ use Rattle.policy_audit.specs.declared.entries.Entries.{Entries}
 use Rattle.policy_audit.specs.Entries.{Entered}
 
 abbrev pub recalled : Entries → Entered
-recalled entries = record { code = entries.code; lines = map string_bytes entries.lines.items }
+recalled entries = record { code = entries.code; rules = map string_bytes entries.rules.items }

@@ -10,3 +10,10 @@ pub struct Finding {
     /// The number of the member, as the reach of the state numbers them.
     pub member: usize,
 }
+
+/// Before which step something is found: its number, counted from 1, and PCC's address.
+#[derive(Clone, Copy)]
+pub(crate) struct Moment {
+    pub step: u64,
+    pub pc: u64,
+}

@@ -1,7 +1,7 @@
-//! What the code in a range can do, as a line of a policy.
+//! What the code in a range can do, as a rule of a policy.
 ghost use Rattle.std.specs.Prelude.{◌≡◌, ◌++◌, OnOk, string_bytes};
 ghost use Rattle.reached.specs.Links.{values};
-ghost use Rattle.policy_audit.specs.Entries.{bytes_part, code_part, enter_part, entry_line, ranges_part, rights_part, yes_or_no};
+ghost use Rattle.policy_audit.specs.Entries.{bytes_part, code_part, enter_part, entry_rule, ranges_part, rights_part, yes_or_no};
 
 use crate::ranges::{append_within, range_text};
 use crate::types::append_types;
@@ -12,7 +12,7 @@ use std::alloc::{AllocError, Global};
 use texts::Piece::Text;
 use texts::append;
 
-/// Appends the code that a line is about.
+/// Appends the code that a rule is about.
 #[tactic(auto, unfolding(crate::specs::Entries::code_part))]
 fn append_code(text: &mut String, code: Range) -> Result<(), AllocError>
     ensures { OnOk result (string_bytes text.new ≡ string_bytes text.old ++ code_part code) }
@@ -104,19 +104,18 @@ fn append_rights<C: CapRep>(
     )
 }
 
-/// Appends the line of a range of code, by what is reachable in it.
-#[tactic(auto, unfolding(crate::specs::Entries::entry_line))]
-pub(crate) fn append_line<C: CapRep>(
+/// Appends the rule of a range of code, by what is reachable in it.
+#[tactic(auto, unfolding(crate::specs::Entries::entry_rule))]
+pub(crate) fn append_rule<C: CapRep>(
     text: &mut String,
     alloc: Global,
     code: Range,
     reach: &Reach<C>,
 ) -> Result<(), AllocError>
-    ensures { OnOk result (string_bytes text.new ≡ string_bytes text.old ++ entry_line code (values C.value reach.now)) }
+    ensures { OnOk result (string_bytes text.new ≡ string_bytes text.old ++ entry_rule code (values C.value reach.now)) }
 {
     append_code(text, code)?;
     append_ranges(text, alloc, reach)?;
     append_rights(text, alloc, reach)?;
-    append_types(text, alloc, reach.members())?;
-    append(text, &[Text("\n")])
+    append_types(text, alloc, reach.members())
 }

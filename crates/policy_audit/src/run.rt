@@ -10,28 +10,27 @@ ghost use Rattle.policy_audit.specs.Told.{remembered, told};
 ghost use Rattle.policy_audit.specs.Turn.{turn_of};
 
 use crate::audit::Audit;
-use crate::findings::{Moment, append_findings};
+use crate::finding::Moment;
+use crate::findings::append_findings;
+use crate::report::Report;
 use crate::turn::{bring, step};
-use breach_texts::RuleLine;
 use cap_bounds::CapRep;
 use machine::Machine;
 use policy::Rule;
 use schedules::Schedule;
 use std::alloc::{AllocError, Global};
-use symbols::Symbols;
 
 /// Appends what an audit finds before the machine's next step.
 fn tell<C: CapRep>(
     text: &mut String,
     alloc: Global,
-    symbols: &Symbols,
-    lines: &[RuleLine<'_>],
+    report: &Report<'_>,
     audit: &mut Audit<'_>,
     machine: &Machine<C>,
     number: u64,
 ) -> Result<(), AllocError>
     ensures text { OnOk result (string_bytes text.new ≡ string_bytes text.old
-        ++ says_found symbols.now lines.now (notes_of audit.old) number machine.now) }
+        ++ says_found report.now.json report.now.symbols.now report.now.lines.now (notes_of audit.old) number machine.now) }
     ensures seen { OnOk result (seen_by audit.new
         ≡ seen_by audit.old ++ found_at (rules_of audit.old) (seen_by audit.old) machine.now) }
     ensures rules { rules_of audit.new ≡ rules_of audit.old }
@@ -43,15 +42,7 @@ fn tell<C: CapRep>(
         pc: machine.hart().scrs().pcc().address(),
     };
     match audit.look(alloc, machine)? {
-        Some((reach, found)) => append_findings(
-            text,
-            alloc,
-            symbols,
-            reach.members(),
-            lines,
-            at,
-            &found,
-        ),
+        Some((reach, found)) => append_findings(text, alloc, report, reach.members(), at, &found),
         None => Ok(()),
     }
 }
@@ -60,8 +51,7 @@ fn tell<C: CapRep>(
 fn tell_around<C: CapRep>(
     text: &mut String,
     alloc: Global,
-    symbols: &Symbols,
-    lines: &[RuleLine<'_>],
+    report: &Report<'_>,
     audit: &mut Audit<'_>,
     machine: &mut Machine<C>,
     schedule: Schedule,
@@ -74,7 +64,7 @@ fn tell_around<C: CapRep>(
     requires running { is_halted machine.old ≡ false }
     ensures state { OnOk result (machine.new ≡ run_after (turn_of schedule input.now done machine.old) machine.old) }
     ensures text { OnOk result (string_bytes text.new ≡ string_bytes text.old
-        ++ told (says_found symbols.now lines.now) (adds_found (said_to audit.old)) done
+        ++ told (says_found report.now.json report.now.symbols.now report.now.lines.now) (adds_found (said_to audit.old)) done
         (turn_of schedule input.now done machine.old) (notes_of audit.old) machine.old) }
     ensures notes { OnOk result (notes_of audit.new ≡ remembered (adds_found (said_to audit.old))
         (turn_of schedule input.now done machine.old) (notes_of audit.old) machine.old) }
@@ -82,18 +72,17 @@ fn tell_around<C: CapRep>(
     ensures whole { IsWhole audit.new }
 {
     bring(machine, schedule.byte_before(input, done + 1));
-    tell(text, alloc, symbols, lines, audit, machine, done + 1)?;
+    tell(text, alloc, report, audit, machine, done + 1)?;
     audit.pass(alloc, machine)?;
     step(machine, schedule.is_tick_after(done + 1));
     Ok(())
 }
 
-/// Runs a machine on a schedule, and appends a text for each part of a rule that is broken in the run: before which step that is so
-/// for the first time, counted from 1, where PCC stands then, and what breaks the rule. Answers how many there are.
+/// Runs a machine on a schedule, and appends a text or an object for each part of a rule that is broken in the run: before which step that
+/// is so for the first time, counted from 1, where PCC stands then, and what breaks the rule. Answers how many there are.
 ///
 /// A rule is broken before a step if it applies and something reachable breaks it, by its terms in force. The machine does each
-/// step all the same, and what it sends is forgotten. A rule's line stands at its place in `lines`; for a rule without a line the step
-/// alone is told.
+/// step all the same, and what it sends is forgotten. For a rule without a line the text tells the step alone; its object has no rule.
 ///
 /// # Errors
 ///
@@ -101,9 +90,8 @@ fn tell_around<C: CapRep>(
 pub fn audit_run<C: CapRep>(
     text: &mut String,
     alloc: Global,
-    symbols: &Symbols,
+    report: &Report<'_>,
     rules: &[Rule],
-    lines: &[RuleLine<'_>],
     machine: &mut Machine<C>,
     schedule: Schedule,
     input: &[u8],
@@ -112,7 +100,8 @@ pub fn audit_run<C: CapRep>(
     requires running { is_halted machine.old ≡ false }
     ensures state { OnOk result (machine.new ≡ run_after (scheduled schedule input.now machine.old) machine.old) }
     ensures text { OnOk result (string_bytes text.new ≡ string_bytes text.old
-        ++ audit_text symbols.now lines.now (terms_of rules.now) (scheduled schedule input.now machine.old) machine.old) }
+        ++ audit_text report.now.json report.now.symbols.now report.now.lines.now (terms_of rules.now)
+        (scheduled schedule input.now machine.old) machine.old) }
     ensures count { IfOk result (λ n. n ≡ length (audit_findings (terms_of rules.now)
         (scheduled schedule input.now machine.old) machine.old)) }
 {
@@ -120,7 +109,7 @@ pub fn audit_run<C: CapRep>(
     let mut done = 0;
     while done < schedule.steps {
         tell_around(
-            text, alloc, symbols, lines, &mut audit, machine, schedule, input, done,
+            text, alloc, report, &mut audit, machine, schedule, input, done,
         )?;
         done += 1;
         if machine.halted().is_some() {

@@ -7,10 +7,8 @@ use Rattle.bounds_text.specs.WordText.{word_of_halves}
 use Rattle.command_line.specs.CommandLine.{IsPlanOf, IsSound, IsTaken, NoPlanFits, found_in}
 use Rattle.command_line.specs.declared.fault.PlanFault.{PlanFault}
 use Rattle.command_line.specs.declared.fault.PlanFault.TheVariants as plan_fault
-use Rattle.command_line.specs.declared.plans.RunRequest.{RunRequest}
 use Rattle.command_line.specs.declared.plans.Plan.{Plan}
 use Rattle.command_line.specs.declared.plans.Plan.TheVariants.{Asm, Image, Go, Run, Audit, Prove, Dis, Debug, Bounds, Word, First}
-use Rattle.sim_run.specs.declared.stopping.StopAt.{StopAt}
 use Rattle.sim_run.specs.Verdict.{status_of}
 use Rattle.program.specs.declared.carrying.Done.{Done}
 use Rattle.program.specs.declared.carrying.Done.TheVariants as done
@@ -20,7 +18,6 @@ use Rattle.commands.specs.declared.fault.ProgramFault.TheVariants.{Memory}
 use Rattle.commands.specs.Assembling.{Assembles, FailsToAssemble}
 use Rattle.commands.specs.Auditing.{AuditsRun, FailsToAudit}
 use Rattle.commands.specs.Bounding.{FailsToShow, WritesWord, bounds_answer}
-use Rattle.commands.specs.Ending.{FailsToTellRun, TellsRun}
 use Rattle.program.specs.Debugging.{DebugsFile, FailsToDebug}
 use Rattle.program.specs.Telling.{end_text, is_quiet}
 use Rattle.commands.specs.Files.{File, Text, Change, IsUnsent, bytes_of}
@@ -39,16 +36,6 @@ status_of_done (done.Run ended json) = status_of ended.end
 status_of_done (done.Audit count) = if count == 0 then 0 else 1
 status_of_done (done.Proof shown) = if shown then 0 else 1
 
--- A run was done, and ended so: it may stop at a trap, or at what breaks a policy; or it was done whole, and an object tells its end.
-abbrev pub RunsAs : Bool → RunRequest → Option (Bor Text) → Option StopAt → Ended → Change → Type 0
-RunsAs false request profile at ended change = RunsFile request profile at ended change
-RunsAs true request profile at ended change = TellsRun request profile ended change
-
-abbrev pub FailsToRunAs : Bool → RunRequest → Option (Bor Text) → Option StopAt → Option (List File) → Option (List File) → ProgramFault
-    → Type 0
-FailsToRunAs false request profile at old new fault = FailsToRun request profile at old new fault
-FailsToRunAs true request profile at old new fault = FailsToTellRun request profile old new fault
-
 -- A plan was carried out wholly, with this status: what an output holds then that held something before, where that is known, and what
 -- became of files, where they are known; what was typed is what the input had left. This was told of it on standard error.
 abbrev pub HasStatus : Plan → Option (List ℕ) → Change → List ℕ → ℕ → Type 0
@@ -58,12 +45,12 @@ HasStatus (Asm input output symbols lines quiet) typed change told status =
 HasStatus (Image flat output layout quiet) typed change told status =
     (status ≡ 0) × (told ≡ []) × (change.out ≡ change.sent)
     × IfSome (bytes_of flat.now change.old) (λ bytes. MakesImage layout output.now bytes change.old change.new)
-HasStatus (Go request why profile json) typed change told status =
-    (ended : Ended) × (status ≡ status_of ended.end) × (told ≡ end_text json ended)
-    × RunsAs json request profile (stop_at why) ended change
-HasStatus (Run request why profile json) typed change told status =
-    (ended : Ended) × (status ≡ status_of ended.end) × (told ≡ end_text json ended)
-    × RunsAs json request profile (stop_at why) ended change
+HasStatus (Go request why profile) typed change told status =
+    (ended : Ended) × (status ≡ status_of ended.end) × (told ≡ end_text request.json ended)
+    × RunsFile request profile (stop_at why) ended change
+HasStatus (Run request why profile) typed change told status =
+    (ended : Ended) × (status ≡ status_of ended.end) × (told ≡ end_text request.json ended)
+    × RunsFile request profile (stop_at why) ended change
 HasStatus (Audit request) typed change told status =
     (count : ℕ) × (status ≡ (if count == 0 then 0 else 1)) × (told ≡ []) × AuditsRun request count change
 HasStatus (Prove request) typed change told status =
@@ -78,14 +65,14 @@ HasStatus (Word high low memory json) typed change told status =
     (status ≡ 0) × (told ≡ []) × WritesWord json (word_of_halves high low memory) change.sent change.out
 HasStatus First typed change told status =
     (ended : Ended) × (status ≡ status_of ended.end) × (told ≡ end_text false ended)
-    × Runs first_run None false ended change.sent change.out
+    × Runs first_run None false false ended change.sent change.out
 
 -- A plan fails, for this reason, and leaves files so.
 abbrev pub FailsAs : Plan → Option (List File) → Option (List File) → ProgramFault → Type 0
 FailsAs (Asm input output symbols lines quiet) old new fault = FailsToAssemble input.now output.now symbols lines old new fault
 FailsAs (Image flat output layout quiet) old new fault = FailsToImage layout flat.now output.now old new fault
-FailsAs (Go request why profile json) old new fault = FailsToRunAs json request profile (stop_at why) old new fault
-FailsAs (Run request why profile json) old new fault = FailsToRunAs json request profile (stop_at why) old new fault
+FailsAs (Go request why profile) old new fault = FailsToRun request profile (stop_at why) old new fault
+FailsAs (Run request why profile) old new fault = FailsToRun request profile (stop_at why) old new fault
 FailsAs (Audit request) old new fault = FailsToAudit request old new fault
 FailsAs (Prove request) old new fault = FailsToProve request old fault × (new ≡ old)
 FailsAs (Dis image symbols header quiet) old new fault = FailsToList image.now symbols old fault × (new ≡ old)

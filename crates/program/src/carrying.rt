@@ -6,8 +6,7 @@ ghost use Rattle.std.specs.Prelude.{codes, map, IfErr, IfOk, OnOk};
 ghost use Rattle.std.specs.Io.KnownBytes.{Appends};
 ghost use Rattle.image.specs.Devices.{Counts};
 ghost use Rattle.sim_run.specs.Verdict.{status_of as status_of_run};
-ghost use Rattle.program.specs.Carrying.{FailsAs, FailsToCarry, FailsToRunAs, HasStatus, IsCarriedOut, IsNoPlanFault, IsSpared, IsRefused};
-ghost use Rattle.program.specs.Carrying.{RunsAs};
+ghost use Rattle.program.specs.Carrying.{FailsAs, FailsToCarry, HasStatus, IsCarriedOut, IsNoPlanFault, IsSpared, IsRefused};
 ghost use Rattle.program.specs.Carrying.{asks_version, status_of_done, version_line};
 ghost use Rattle.program.specs.Telling.{Tells, done_text, end_text, is_quiet, same_file};
 ghost use Rattle.commands.specs.FaultTexts.{fault_text};
@@ -21,8 +20,7 @@ use crate::debugging::debug_file;
 use command_line::{Plan, PlanFault, RunRequest, plan};
 use commands::{
     Ended, Folder, ProgramFault, assemble_file, audit_file, image_file, list_file, load,
-    overwrites, prove_file, put_fault, run_first, run_loaded, run_to_object, show_bounds,
-    show_word, stop_at,
+    overwrites, prove_file, put_fault, run_first, run_loaded, show_bounds, show_word, stop_at,
 };
 use image::{DeviceFailed, Sink, write_all};
 use sim_run::{StopAt, verdict};
@@ -137,28 +135,6 @@ fn run_file<'a, F: Folder, O: Write + Drop>(
     }
 }
 
-/// The same; or with `json` runs it whole, for its end to be told as an object.
-fn run_as<'a, F: Folder, O: Write + Drop>(
-    alloc: Global,
-    folder: &mut F,
-    request: RunRequest<'a>,
-    profile: Option<&'a str>,
-    at: Option<StopAt>,
-    json: bool,
-    output: O,
-) -> Result<(Ended, O), ProgramFault<'a>>
-    requires { AreInRange request }
-    ensures ok { IfOk result (λ done. RunsAs json request.entry profile.entry at done.0
-        (changed (O.contents output) (O.contents done.1) (F.files folder.old) (F.files folder.new))) }
-    ensures err { IfErr result (FailsToRunAs json request.entry profile.entry at (F.files folder.old) (F.files folder.new)) }
-{
-    if json {
-        run_to_object(alloc, folder, request, profile, output)
-    } else {
-        run_file(alloc, folder, request, profile, at, output)
-    }
-}
-
 /// Does what the plan says, and hands the output back.
 fn carry_out<'a, F: Folder, I: Read + Drop, O: Write + Drop>(
     alloc: Global,
@@ -182,35 +158,17 @@ fn carry_out<'a, F: Folder, I: Read + Drop, O: Write + Drop>(
             request,
             why,
             profile,
-            json,
         } => {
-            let (ended, output) = run_as(
-                alloc,
-                folder,
-                request,
-                profile,
-                stop_at(why),
-                json,
-                output,
-            )?;
-            Ok((Done::Run(ended, json), output))
+            let (ended, output) = run_file(alloc, folder, request, profile, stop_at(why), output)?;
+            Ok((Done::Run(ended, request.json), output))
         }
         Plan::Run {
             request,
             why,
             profile,
-            json,
         } => {
-            let (ended, output) = run_as(
-                alloc,
-                folder,
-                request,
-                profile,
-                stop_at(why),
-                json,
-                output,
-            )?;
-            Ok((Done::Run(ended, json), output))
+            let (ended, output) = run_file(alloc, folder, request, profile, stop_at(why), output)?;
+            Ok((Done::Run(ended, request.json), output))
         }
         Plan::Audit(request) => {
             let (count, output) = audit_file(alloc, folder, request, output)?;

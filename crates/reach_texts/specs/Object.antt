@@ -23,9 +23,12 @@ from_field other from = number_field (codes "from") from
 unfoldable pub link_fields : ℕ → Place → ℕ → List Token
 link_fields number place from = number_field (codes "member") number ++ from_field place from
 
+unfoldable pub member_fields : List Symbol → ℕ → Found → List Token
+member_fields symbols number x =
+    link_fields number x.place x.from ++ found_fields symbols x.place ++ value_field (codes "capability") x.value
+
 abbrev pub member_object : List Symbol → ℕ → Found → List ℕ
-member_object symbols number x =
-    object_line (link_fields number x.place x.from ++ found_fields symbols x.place ++ value_field (codes "capability") x.value)
+member_object symbols number x = object_line (member_fields symbols number x)
 
 abbrev pub objects_text : List Symbol → List Found → List ℕ
 objects_text symbols xs = numbered (member_object symbols) 0 xs

@@ -17,5 +17,5 @@ pub use answer::{put_answer, put_held};
 pub use asked::first_that;
 pub use graph::put_graph;
 pub use members::put_members;
-pub use object::put_objects;
+pub use object::{put_member, put_objects};
 pub use summary::put_summary;

@@ -1,7 +1,7 @@
 //! The members of a reach as objects of JSON.
 ghost use Rattle.std.specs.Prelude.{◌≡◌, ◌++◌, IfOk, OnOk, string_bytes};
 ghost use Rattle.reached.specs.Order.{seen_member, seen_members};
-ghost use Rattle.reach_texts.specs.Object.{found_fields, link_fields, member_object, objects_text};
+ghost use Rattle.reach_texts.specs.Object.{found_fields, link_fields, member_fields, member_object, objects_text};
 
 use crate::places::place_name;
 use bounds_objects::put_value;
@@ -45,8 +45,28 @@ fn put_found(object: &mut Writer, symbols: &Symbols, place: Place) -> Result<(),
     }
 }
 
+/// Says a member: its number, where it was found, the member that led there, and its capability.
+///
+/// # Errors
+///
+/// Out of memory.
+#[tactic(auto, unfolding(crate::specs::Object::member_fields), using(objects::specs::ItemLaws::said_three))]
+pub fn put_member<C: CapRep>(
+    object: &mut Writer,
+    symbols: &Symbols,
+    number: u64,
+    member: &Member<C>,
+) -> Result<(), AllocError>
+    ensures tokens { OnOk result (object.new.tokens
+        ≡ object.old.tokens ++ member_fields symbols.now number (seen_member C.value member.now)) }
+    ensures alone { object.new.before ≡ object.old.before }
+{
+    put_link(object, number, member.place, member.from as u64)?;
+    put_found(object, symbols, member.place)?;
+    put_value(object, "capability", member.cap)
+}
+
 /// The line of a member's object.
-#[tactic(auto, using(objects::specs::ItemLaws::said_three))]
 fn member_object<C: CapRep>(
     alloc: Global,
     symbols: &Symbols,
@@ -56,9 +76,7 @@ fn member_object<C: CapRep>(
     ensures { IfOk result (λ line. string_bytes line ≡ member_object symbols.now number (seen_member C.value member.now)) }
 {
     let mut object = begin(alloc)?;
-    put_link(&mut object, number, member.place, member.from as u64)?;
-    put_found(&mut object, symbols, member.place)?;
-    put_value(&mut object, "capability", member.cap)?;
+    put_member(&mut object, symbols, number, member)?;
     finish(object)
 }
 

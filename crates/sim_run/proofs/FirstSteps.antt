@@ -16,11 +16,10 @@ use Rattle.machine.specs.declared.end.End.TheVariants.{Running}
 use Rattle.machine.specs.Run.{run_after, run_sent, end_of, ended}
 use Rattle.schedules.specs.declared.schedule.Schedule.{Schedule}
 use Rattle.sim_run.specs.declared.traced.TraceFault.{TraceFault}
-use Rattle.sim_run.specs.declared.traced.TraceFault.TheVariants.{Output, Trace}
+use Rattle.sim_run.specs.declared.traced.TraceFault.TheVariants.{Output, Trace, Memory}
 use Rattle.schedules.specs.Schedule.{around, byte_before, is_tick_after, first_steps, is_halted, scheduled, steps_in, up_to_halt}
 use Rattle.schedules.specs.Schedule.{IsCutShort}
-use Rattle.symbols.specs.Symbols.{Symbol}
-use Rattle.sim_run.specs.Trace.{trace_lines, lines_past, trace_text, WasCut}
+use Rattle.sim_run.specs.Trace.{IsTraceCut, Says, trace_lines, lines_past, trace_text, WasCut}
 use Rattle.schedules.proofs.Events.{brought, run_after-append, run_sent-append, run_sent-brought, steps_in-append, steps_in-brought}
 use Rattle.schedules.proofs.Events.{cut_within}
 use Rattle.sim_run.specs.LineLaws.{length_lines, trace_lines-append}
@@ -124,26 +123,37 @@ module _ (xs : List Event) (byte : Option ℕ) (s : State) where
       let none = steps_in-brought byte in
       omega (arith, is, both, none)
 
-  no_lines : (symbols : List Symbol) (n : ℕ) (byte : Option ℕ) (t : State) → trace_lines symbols n (brought byte) t ≡ []
-  no_lines symbols n None t = refl
-  no_lines symbols n (Some b) t = refl
+  no_lines : (says : Says) (n : ℕ) (byte : Option ℕ) (t : State) → trace_lines says n (brought byte) t ≡ []
+  no_lines says n None t = refl
+  no_lines says n (Some b) t = refl
 
-  pub lines-then : (symbols : List Symbol) (k : ℕ) (a b : Option (List ℕ)) → Appends a b (lines_past symbols k 0 xs s)
-      → Appends a b (lines_past symbols k 0 (xs ++ brought byte) s)
-  lines-then symbols k a b =
+  pub lines-then : (says : Says) (k : ℕ) (a b : Option (List ℕ)) → Appends a b (lines_past says k 0 xs s)
+      → Appends a b (lines_past says k 0 (xs ++ brought byte) s)
+  lines-then says k a b =
       subst (Appends a b)
       (ap (λ (lines : List (List ℕ)). concat (drop k lines))
-      (sym (trace_lines-append symbols 0 xs (brought byte) s
-      ∙ ap (λ (more : List (List ℕ)). trace_lines symbols 0 xs s ++ more) (no_lines symbols (0 + steps_in xs) byte (run_after xs s))
-      ∙ append-nil (trace_lines symbols 0 xs s))))
+      (sym (trace_lines-append says 0 xs (brought byte) s
+      ∙ ap (λ (more : List (List ℕ)). trace_lines says 0 xs s ++ more) (no_lines says (0 + steps_in xs) byte (run_after xs s))
+      ∙ append-nil (trace_lines says 0 xs s))))
 
   pub cut-then : (u : State) (a b : Option (List ℕ)) → IsCutShort xs s u a b → IsCutShort (xs ++ brought byte) s u a b
   cut-then u a b cut = cut_within [] xs (brought byte) s u a a b (Appends-nil a) cut
 
-  pub traced-then : (symbols : List Symbol) (k : ℕ) (fault : TraceFault) (u : State) (a b d e : Option (List ℕ))
-      → WasCut symbols fault k 0 xs s u a b d e
-      → WasCut symbols fault k 0 (xs ++ brought byte) s u a b d e
-  traced-then symbols k Output u a b d e cut = record {
+  cut-trace-then : (says : Says) (k : ℕ) (u : State) (a b d e : Option (List ℕ)) → IsTraceCut says k 0 xs s u a b d e
+      → IsTraceCut says k 0 (xs ++ brought byte) s u a b d e
+  cut-trace-then says k u a b d e cut = record {
+    done = cut.done;
+    rest = cut.rest ++ brought byte;
+    order = ap (λ es. es ++ brought byte) cut.order ∙ append_assoc cut.done (Step ∷ cut.rest) (brought byte);
+    state = cut.state;
+    held = cut.held;
+    lines = cut.lines;
+  }
+
+  pub traced-then : (says : Says) (k : ℕ) (fault : TraceFault) (u : State) (a b d e : Option (List ℕ))
+      → WasCut says fault k 0 xs s u a b d e
+      → WasCut says fault k 0 (xs ++ brought byte) s u a b d e
+  traced-then says k Output u a b d e cut = record {
     done = cut.done;
     last = cut.last;
     rest = cut.rest ++ brought byte;
@@ -153,14 +163,8 @@ module _ (xs : List Event) (byte : Option ℕ) (s : State) where
     held = cut.held;
     lines = cut.lines;
   }
-  traced-then symbols k Trace u a b d e cut = record {
-    done = cut.done;
-    rest = cut.rest ++ brought byte;
-    order = ap (λ es. es ++ brought byte) cut.order ∙ append_assoc cut.done (Step ∷ cut.rest) (brought byte);
-    state = cut.state;
-    held = cut.held;
-    lines = cut.lines;
-  }
+  traced-then says k Trace u a b d e cut = cut-trace-then says k u a b d e cut
+  traced-then says k Memory u a b d e cut = cut-trace-then says k u a b d e cut
 
 end-byte : (b : ℕ) (s : State) → end_of (after (Byte b) s) ≡ end_of s
 unfolding received
@@ -181,11 +185,11 @@ ends-running s running = ap ended (sym (not-halted s.devices.halted running))
 
 -- ---- the lines that a trace leaves out
 
-pub last_kept : (symbols : List Symbol) (from n skipped steps : ℕ) (events : List Event) (s : State) → skipped ≡ max (from - 1) (steps - n)
-    → steps ≡ steps_in events → trace_text symbols from (Some n) events s ≡ lines_past symbols skipped 0 events s
-last_kept symbols from n skipped steps events s is count =
-    let lines = trace_lines symbols 0 events s in
-    let long : length lines ≡ steps = length_lines symbols 0 events s ∙ sym count in
+pub last_kept : (says : Says) (from n skipped steps : ℕ) (events : List Event) (s : State) → skipped ≡ max (from - 1) (steps - n)
+    → steps ≡ steps_in events → trace_text says from (Some n) events s ≡ lines_past says skipped 0 events s
+last_kept says from n skipped steps events s is count =
+    let lines = trace_lines says 0 events s in
+    let long : length lines ≡ steps = length_lines says 0 events s ∙ sym count in
     let left = length-drop (from - 1) lines in
     let place : (from - 1) + (length (drop (from - 1) lines) - n) ≡ skipped = omega (arith, long, left, is) in
     ap concat (drop-drop (length (drop (from - 1) lines) - n) (from - 1) lines ∙ ap (λ k. drop k lines) place)

@@ -3,16 +3,16 @@ use Rattle.std.proofs.Common.{◌≡◌, ℕ, ◌+◌, ◌-◌, ◌<◌, ◌≤�
 use Rattle.std.proofs.lemmas.Bool.{eqb-false, ltb-true}
 use Rattle.std.proofs.Math.Nat.{max-eq_left}
 use Rattle.std.specs.Prelude.{◌==◌, ⊤, nat_lt, max, Option, Some, None, if◌then◌else◌, Result, Ok, Err, OnOk, OnErr, IfErr}
-use Rattle.image.specs.Devices.{Counts}
+use Rattle.image.specs.Devices.{AppendsBeginning}
+use Rattle.std.proofs.KnownBytes.{Appends-nil}
 use Rattle.steps.specs.State.{State}
 use Rattle.steps.specs.declared.event.Event.TheVariants.{Step}
-use Rattle.symbols.specs.Symbols.{Symbol}
-use Rattle.explain.specs.TraceLine.{trace_line}
 use Rattle.schedules.specs.declared.pace.Pace.{Pace}
 use Rattle.schedules.specs.declared.pace.Speed.TheVariants.{Any, Each, Short}
 use Rattle.schedules.specs.Pace.{GoBy, most_of}
-use Rattle.sim_run.specs.Lines.{lines_pace}
-use Rattle.sim_run.specs.Trace.{lines_past}
+use Rattle.sim_run.specs.Lines.{CountsLine, calls_failed, lines_pace}
+use Rattle.sim_run.specs.Trace.{Says, lines_past}
+use Rattle.sim_run.specs.declared.traced.LineFault.{LineFault}
 use Rattle.sim_run.specs.declared.notes.First.{First}
 use Rattle.sim_run.specs.Watched.{counted_pace, watching_pace}
 
@@ -35,11 +35,10 @@ module _ (k n : ℕ) where
   few_skipped m s = few_of m s (nat_lt n k) refl
 
 -- the line of a step that has one
-pub one_line : (symbols : List Symbol) (k n : ℕ) (s : State) → (n < k → ⊥) → lines_past symbols (k - n) n (Step ∷ []) s
-    ≡ trace_line symbols (n + 1) s
-one_line symbols k n s past =
+pub one_line : (says : Says) (k n : ℕ) (s : State) → (n < k → ⊥) → lines_past says (k - n) n (Step ∷ []) s ≡ says (n + 1) s
+one_line says k n s past =
     let none : k - n ≡ 0 = omega (arith, past) in
-    rw none (append-nil (trace_line symbols (n + 1) s))
+    rw none (append-nil (says (n + 1) s))
 
 -- of those before the number of a step has more than 64 bits
 module _ (n : ℕ) where
@@ -76,13 +75,18 @@ not_last n fits is = go (λ same. eqb-false n 18446744073709551615 is same)
 
 -- ---- what a call of a sink left
 
-pub on_written : {T E A B : Type 0} (r : Result T E) (o n : ℕ) → Counts o n r → OnOk r A → (A → n ≡ o → B) → OnOk r B
+pub on_written : {T A B : Type 0} (r : Result T LineFault) (o n : ℕ) → CountsLine o n r → OnOk r A → (A → n ≡ o → B) → OnOk r B
 on_written (Ok x) o n count wrote next = next wrote count
 on_written (Err e) o n count wrote next = tt
 
-pub on_missed : {T E A B : Type 0} (r : Result T E) (o n : ℕ) → Counts o n r → OnErr r A → (A → n ≡ o + 1 → B) → IfErr r (λ _. B)
+pub on_missed : {T A : Type 0} {B : LineFault → Type 0} (r : Result T LineFault) (o n : ℕ) → CountsLine o n r → OnErr r A
+    → ((e : LineFault) → A → n ≡ o + calls_failed e → B e) → IfErr r B
 on_missed (Ok x) o n count wrote next = tt
-on_missed (Err e) o n count wrote next = next wrote count
+on_missed (Err e) o n count wrote next = next e wrote count
+
+-- nothing is a beginning of a text
+pub nothing_begun : (a : Option (List ℕ)) (text : List ℕ) → AppendsBeginning a a text
+nothing_begun a text = (0, omega arith, Appends-nil a)
 
 pub on_any : {T E : Type 0} (r : Result T E) → OnOk r ⊤
 on_any (Ok x) = tt

@@ -13,11 +13,11 @@ use Rattle.steps.specs.declared.event.Event.TheVariants.{Step, Tick, Byte}
 use Rattle.steps.specs.Event.{after}
 use Rattle.steps.specs.State.{State}
 use Rattle.machine.specs.Run.{run_after}
-use Rattle.symbols.specs.Symbols.{Symbol}
-use Rattle.explain.specs.TraceLine.{trace_line}
 use Rattle.schedules.specs.Schedule.{steps_in}
-use Rattle.sim_run.specs.Trace.{trace_lines, lines_past}
-use Rattle.sim_run.specs.Lines.{MissedLine, WroteLines}
+use Rattle.sim_run.specs.Trace.{Says, says_of, trace_lines, lines_past}
+use Rattle.sim_run.specs.Lines.{MissedLine, WroteLines, calls_failed}
+use Rattle.sim_run.specs.declared.traced.Form.{Form}
+use Rattle.sim_run.specs.declared.traced.LineFault.{LineFault}
 
 drop-append : {A : Type 0} (n : ℕ) (xs ys : List A) → drop n (xs ++ ys) ≡ drop n xs ++ drop (n - length xs) ys
 drop-append zero xs ys =
@@ -40,97 +40,100 @@ steps_in-append (Step ∷ xs) ys =
 steps_in-append (Tick ∷ xs) ys = steps_in-append xs ys
 steps_in-append (Byte b ∷ xs) ys = steps_in-append xs ys
 
-pub trace_lines-append : (symbols : List Symbol) (n : ℕ) (xs ys : List Event) (s : State)
-    → trace_lines symbols n (xs ++ ys) s ≡ trace_lines symbols n xs s ++ trace_lines symbols (n + steps_in xs) ys (run_after xs s)
-trace_lines-append symbols n [] ys s =
+pub trace_lines-append : (says : Says) (n : ℕ) (xs ys : List Event) (s : State)
+    → trace_lines says n (xs ++ ys) s ≡ trace_lines says n xs s ++ trace_lines says (n + steps_in xs) ys (run_after xs s)
+trace_lines-append says n [] ys s =
     let none : n ≡ n + 0 = omega arith in
-    ap (λ m. trace_lines symbols m ys s) none
-trace_lines-append symbols n (Step ∷ xs) ys s =
+    ap (λ m. trace_lines says m ys s) none
+trace_lines-append says n (Step ∷ xs) ys s =
     let one : n + 1 + steps_in xs ≡ n + suc (steps_in xs) = omega arith in
-    ap (λ lines. trace_line symbols (n + 1) s ∷ lines) (trace_lines-append symbols (n + 1) xs ys (after Step s))
-    ∙ ap (λ m. (trace_line symbols (n + 1) s ∷ trace_lines symbols (n + 1) xs (after Step s))
-    ++ trace_lines symbols m ys (run_after xs (after Step s))) one
-trace_lines-append symbols n (Tick ∷ xs) ys s = trace_lines-append symbols n xs ys (after Tick s)
-trace_lines-append symbols n (Byte b ∷ xs) ys s = trace_lines-append symbols n xs ys (after (Byte b) s)
+    ap (λ lines. says (n + 1) s ∷ lines) (trace_lines-append says (n + 1) xs ys (after Step s))
+    ∙ ap (λ m. (says (n + 1) s ∷ trace_lines says (n + 1) xs (after Step s))
+    ++ trace_lines says m ys (run_after xs (after Step s))) one
+trace_lines-append says n (Tick ∷ xs) ys s = trace_lines-append says n xs ys (after Tick s)
+trace_lines-append says n (Byte b ∷ xs) ys s = trace_lines-append says n xs ys (after (Byte b) s)
 
 -- a line for each step
-pub length_lines : (symbols : List Symbol) (n : ℕ) (xs : List Event) (s : State) → length (trace_lines symbols n xs s) ≡ steps_in xs
-length_lines symbols n [] s = refl
-length_lines symbols n (Step ∷ xs) s = ap suc (length_lines symbols (n + 1) xs (after Step s))
-length_lines symbols n (Tick ∷ xs) s = length_lines symbols n xs (after Tick s)
-length_lines symbols n (Byte b ∷ xs) s = length_lines symbols n xs (after (Byte b) s)
+pub length_lines : (says : Says) (n : ℕ) (xs : List Event) (s : State) → length (trace_lines says n xs s) ≡ steps_in xs
+length_lines says n [] s = refl
+length_lines says n (Step ∷ xs) s = ap suc (length_lines says (n + 1) xs (after Step s))
+length_lines says n (Tick ∷ xs) s = length_lines says n xs (after Tick s)
+length_lines says n (Byte b ∷ xs) s = length_lines says n xs (after (Byte b) s)
 
-pub lines_past-append : (symbols : List Symbol) (k n : ℕ) (xs ys : List Event) (s : State)
-    → lines_past symbols k n (xs ++ ys) s
-    ≡ lines_past symbols k n xs s ++ lines_past symbols (k - steps_in xs) (n + steps_in xs) ys (run_after xs s)
-lines_past-append symbols k n xs ys s =
-    let lines = trace_lines symbols n xs s in
-    let more = trace_lines symbols (n + steps_in xs) ys (run_after xs s) in
-    ap (λ (all : List (List ℕ)). concat (drop k all)) (trace_lines-append symbols n xs ys s)
+pub lines_past-append : (says : Says) (k n : ℕ) (xs ys : List Event) (s : State)
+    → lines_past says k n (xs ++ ys) s
+    ≡ lines_past says k n xs s ++ lines_past says (k - steps_in xs) (n + steps_in xs) ys (run_after xs s)
+lines_past-append says k n xs ys s =
+    let lines = trace_lines says n xs s in
+    let more = trace_lines says (n + steps_in xs) ys (run_after xs s) in
+    ap (λ (all : List (List ℕ)). concat (drop k all)) (trace_lines-append says n xs ys s)
     ∙ ap concat (drop-append k lines more) ∙ concat-append (drop k lines) (drop (k - length lines) more)
-    ∙ ap (λ m. concat (drop k lines) ++ concat (drop (k - m) more)) (length_lines symbols n xs s)
+    ∙ ap (λ m. concat (drop k lines) ++ concat (drop (k - m) more)) (length_lines says n xs s)
 
 -- none is kept of the first steps
-pub no_lines_past : (symbols : List Symbol) (k n : ℕ) (xs : List Event) (s : State) → steps_in xs ≤ k → lines_past symbols k n xs s ≡ []
-no_lines_past symbols k n xs s many =
-    let all : length (trace_lines symbols n xs s) ≤ k = rw (length_lines symbols n xs s) many in
-    ap concat (drop_all k (trace_lines symbols n xs s) all)
+pub no_lines_past : (says : Says) (k n : ℕ) (xs : List Event) (s : State) → steps_in xs ≤ k → lines_past says k n xs s ≡ []
+no_lines_past says k n xs s many =
+    let all : length (trace_lines says n xs s) ≤ k = rw (length_lines says n xs s) many in
+    ap concat (drop_all k (trace_lines says n xs s) all)
 
 -- ---- what a watch wrote
 
-pub wrote_no_line : (symbols : List Symbol) (k n : ℕ) (s : State) (a : Option (List ℕ)) (m : ℕ) → WroteLines symbols k n [] s a a m m n
-wrote_no_line symbols k n s a m =
+pub wrote_no_line : (says : Says) (k n : ℕ) (s : State) (a : Option (List ℕ)) (m : ℕ) → WroteLines says k n [] s a a m m n
+wrote_no_line says k n s a m =
     let none : n ≡ n + 0 = omega arith in
-    record { lines = rw (no_lines_past symbols (k - n) n [] s (omega arith)) (Appends-nil a); failed = refl; count = none }
+    record { lines = rw (no_lines_past says (k - n) n [] s (omega arith)) (Appends-nil a); failed = refl; count = none }
 
-module _ (symbols : List Symbol) (k n : ℕ) (xs ys : List Event) (s : State) (a b c : Option (List ℕ)) (m o p n' : ℕ)
-    (first : WroteLines symbols k n xs s a b m o n') where
+module _ (says : Says) (k n : ℕ) (xs ys : List Event) (s : State) (a b c : Option (List ℕ)) (m o p n' : ℕ)
+    (first : WroteLines says k n xs s a b m o n') where
   left : k - n' ≡ k - n - steps_in xs
   left =
       let count = first.count in
       omega (arith, count)
 
-  pub wrote_more_lines : (n'' : ℕ) → WroteLines symbols k n' ys (run_after xs s) b c o p n''
-      → WroteLines symbols k n (xs ++ ys) s a c m p n''
+  pub wrote_more_lines : (n'' : ℕ) → WroteLines says k n' ys (run_after xs s) b c o p n''
+      → WroteLines says k n (xs ++ ys) s a c m p n''
   wrote_more_lines n'' later =
       let both = steps_in-append xs ys in
       let one = first.count in
       let two = later.count in
       let more = rw (left, one) at later.lines in
       record {
-        lines = subst (Appends a c) (sym (lines_past-append symbols (k - n) n xs ys s)) (Appends-trans a b c _ _ first.lines more);
+        lines = subst (Appends a c) (sym (lines_past-append says (k - n) n xs ys s)) (Appends-trans a b c _ _ first.lines more);
         failed = later.failed ∙ first.failed;
         count = omega (arith, both, one, two);
       }
 
-  pub missed_later : MissedLine symbols k n' ys (run_after xs s) b c o p → MissedLine symbols k n (xs ++ ys) s a c m p
-  missed_later later =
+  pub missed_later : (fault : LineFault) → MissedLine fault says k n' ys (run_after xs s) b c o p
+      → MissedLine fault says k n (xs ++ ys) s a c m p
+  missed_later fault later =
       let one = first.count in
       let more = rw (left, one) at later.lines in
       record {
-        lines = subst (λ es. AppendsBeginning a c (lines_past symbols (k - n) n es s)) (sym (append_assoc xs ys (Step ∷ [])))
-            (subst (AppendsBeginning a c) (sym (lines_past-append symbols (k - n) n xs (ys ++ Step ∷ []) s))
+        lines = subst (λ es. AppendsBeginning a c (lines_past says (k - n) n es s)) (sym (append_assoc xs ys (Step ∷ [])))
+            (subst (AppendsBeginning a c) (sym (lines_past-append says (k - n) n xs (ys ++ Step ∷ []) s))
             (beginning_after a b c _ _ first.lines more));
-        failed = later.failed ∙ ap (λ q. q + 1) first.failed;
+        failed = later.failed ∙ ap (λ q. q + calls_failed fault) first.failed;
       }
 
 -- the events have no line that is kept
-pub wrote_skipped : (symbols : List Symbol) (k n : ℕ) (xs : List Event) (s : State) (a : Option (List ℕ)) (m n' : ℕ)
-    → steps_in xs ≤ k - n → n' ≡ n + steps_in xs → WroteLines symbols k n xs s a a m m n'
-wrote_skipped symbols k n xs s a m n' few count =
-    record { lines = rw (no_lines_past symbols (k - n) n xs s few) (Appends-nil a); failed = refl; count = count }
+pub wrote_skipped : (says : Says) (k n : ℕ) (xs : List Event) (s : State) (a : Option (List ℕ)) (m n' : ℕ)
+    → steps_in xs ≤ k - n → n' ≡ n + steps_in xs → WroteLines says k n xs s a a m m n'
+wrote_skipped says k n xs s a m n' few count =
+    record { lines = rw (no_lines_past says (k - n) n xs s few) (Appends-nil a); failed = refl; count = count }
 
--- the same of a watch, whose table and count of lines that are left out stay
-module _ (xs ys : List Event) (s : State) (t t' : List Symbol) (k k' n n' : ℕ) (a b c : Option (List ℕ)) (m o p : ℕ) (same : t' ≡ t)
-    (still : k' ≡ k) (first : WroteLines t k n xs s a b m o n') where
-  pub wrote_more : (n'' : ℕ) → WroteLines t' k' n' ys (run_after xs s) b c o p n'' → WroteLines t k n (xs ++ ys) s a c m p n''
+-- the same of a watch, whose form and count of lines that are left out stay
+module _ (xs ys : List Event) (s : State) (f f' : Form) (k k' n n' : ℕ) (a b c : Option (List ℕ)) (m o p : ℕ) (same : f' ≡ f)
+    (still : k' ≡ k) (first : WroteLines (says_of f) k n xs s a b m o n') where
+  pub wrote_more : (n'' : ℕ) → WroteLines (says_of f') k' n' ys (run_after xs s) b c o p n''
+      → WroteLines (says_of f) k n (xs ++ ys) s a c m p n''
   wrote_more n'' later =
-      wrote_more_lines t k n xs ys s a b c m o p n' first n''
-      (subst (λ u. WroteLines u k n' ys (run_after xs s) b c o p n'') same
-      (subst (λ j. WroteLines t' j n' ys (run_after xs s) b c o p n'') still later))
+      wrote_more_lines (says_of f) k n xs ys s a b c m o p n' first n''
+      (subst (λ u. WroteLines (says_of u) k n' ys (run_after xs s) b c o p n'') same
+      (subst (λ j. WroteLines (says_of f') j n' ys (run_after xs s) b c o p n'') still later))
 
-  pub missed_more : MissedLine t' k' n' ys (run_after xs s) b c o p → MissedLine t k n (xs ++ ys) s a c m p
-  missed_more later =
-      missed_later t k n xs ys s a b c m o p n' first
-      (subst (λ u. MissedLine u k n' ys (run_after xs s) b c o p) same
-      (subst (λ j. MissedLine t' j n' ys (run_after xs s) b c o p) still later))
+  pub missed_more : (fault : LineFault) → MissedLine fault (says_of f') k' n' ys (run_after xs s) b c o p
+      → MissedLine fault (says_of f) k n (xs ++ ys) s a c m p
+  missed_more fault later =
+      missed_later (says_of f) k n xs ys s a b c m o p n' first fault
+      (subst (λ u. MissedLine fault (says_of u) k n' ys (run_after xs s) b c o p) same
+      (subst (λ j. MissedLine fault (says_of f') j n' ys (run_after xs s) b c o p) still later))

@@ -10,6 +10,7 @@ use Rattle.steps.specs.Event.{after}
 use Rattle.steps.specs.State.{State, pc_of}
 use Rattle.symbols.specs.Symbols.{Symbol}
 use Rattle.explain.specs.TrapText.{trap_text}
+use Rattle.explain.specs.WhyObjects.{why_objects}
 use Rattle.objects.specs.Items.{address_field, null_field, number_field, object_field, object_line, text_field}
 use Rattle.objects.specs.Places.{place_field}
 use Rattle.sim_run.specs.Ending.{is_trapped}
@@ -73,3 +74,7 @@ end_fields symbols end steps s = run_fields end steps ++ place_field (codes "pcc
 abbrev pub ending_object : List Symbol → End → ℕ → Traps → State → List ℕ
 ending_object symbols end steps left s =
     object_line (end_fields symbols end steps s ++ trap_fields symbols left.first left.last s)
+
+-- of a run that stopped before a trap: how it ended, and why its next step traps, by the lines of that
+unfoldable pub stopped_objects : List Symbol → End → ℕ → State → List ℕ
+stopped_objects symbols end steps s = object_line (end_fields symbols end steps s) ++ why_objects symbols s

@@ -4,21 +4,19 @@ ghost use Rattle.std.specs.Prelude.{◌≡◌, ◌<◌, ◌-◌, ◌^◌, List, 
 ghost use Rattle.std.specs.Io.KnownBytes.{Appends};
 ghost use Rattle.image.specs.Devices.{Counts};
 ghost use Rattle.steps.specs.State.{State};
-ghost use Rattle.symbols.specs.Symbols.{Symbol};
 ghost use Rattle.steps.specs.declared.event.Event.{Event};
 ghost use Rattle.machine.specs.Run.{run_after, run_sent, end_of};
 ghost use Rattle.schedules.specs.Schedule.{is_halted, steps_in, IsCutShort, IsRunnable};
 ghost use Rattle.schedules.specs.Schedule.{IsPlaceOf};
 ghost use Rattle.schedules.specs.Schedule.{events_before};
-ghost use Rattle.sim_run.specs.Trace.{lines_past, trace_text, CountsTraced, WasCut};
+ghost use Rattle.sim_run.specs.Trace.{lines_past, says_of, trace_text, CountsTraced, Says, WasCut};
 
 use crate::run::{Ran, bring, run_counted, skip};
-use crate::traced::{TraceFault, run_traced};
+use crate::traced::{Form, TraceFault, run_traced};
 use cap_bounds::CapRep;
 use image::{DeviceFailed, Sink};
 use machine::Machine;
 use schedules::Schedule;
-use symbols::Symbols;
 
 /// Runs a machine on a schedule up to the step of a number, which is not done, and gives it the byte that comes just before that step.
 fn run_to<C: CapRep, W: Sink>(
@@ -86,7 +84,7 @@ fn trace_to<C: CapRep, W: Sink, T: Sink>(
     input: &[u8],
     number: u64,
     skipped: u64,
-    symbols: &Symbols,
+    form: Form<'_>,
     sink: &mut W,
     trace: &mut T,
 ) -> Result<Ran, TraceFault>
@@ -99,15 +97,15 @@ fn trace_to<C: CapRep, W: Sink, T: Sink>(
     ensures bytes { OnOk result (Appends (W.held sink.old) (W.held sink.new)
         (run_sent (events_before (Some number) schedule input.now machine.old) machine.old)) }
     ensures lines { OnOk result (Appends (T.held trace.old) (T.held trace.new)
-        (lines_past symbols.now skipped 0 (events_before (Some number) schedule input.now machine.old) machine.old)) }
+        (lines_past (says_of form.entry) skipped 0 (events_before (Some number) schedule input.now machine.old) machine.old)) }
     ensures end { IfOk result (λ ran. ran.end ≡ end_of machine.new) }
     ensures steps { IfOk result (λ ran. ran.steps ≡ steps_in (events_before (Some number) schedule input.now machine.old)) }
-    ensures cut { IfErr result (λ fault. WasCut symbols.now fault skipped 0 (events_before (Some number) schedule input.now machine.old)
+    ensures cut { IfErr result (λ fault. WasCut (says_of form.entry) fault skipped 0 (events_before (Some number) schedule input.now machine.old)
         machine.old machine.new (W.held sink.old) (W.held sink.new) (T.held trace.old) (T.held trace.new)) }
     ensures count { CountsTraced result (W.failed sink.old) (W.failed sink.new) (T.failed trace.old) (T.failed trace.new) }
 {
     let first = schedule.first(number - 1);
-    match run_traced(machine, first, input, skipped, symbols, sink, trace) {
+    match run_traced(machine, first, input, skipped, form, sink, trace) {
         Ok(ran) => {
             bring(machine, schedule.byte_before(input, number));
             Ok(ran)
@@ -124,7 +122,7 @@ pub fn run_traced_before<C: CapRep, W: Sink, T: Sink>(
     input: &[u8],
     stop: Option<u64>,
     skipped: u64,
-    symbols: &Symbols,
+    form: Form<'_>,
     sink: &mut W,
     trace: &mut T,
 ) -> Result<Ran, TraceFault>
@@ -137,18 +135,16 @@ pub fn run_traced_before<C: CapRep, W: Sink, T: Sink>(
     ensures bytes { OnOk result (Appends (W.held sink.old) (W.held sink.new)
         (run_sent (events_before stop schedule input.now machine.old) machine.old)) }
     ensures lines { OnOk result (Appends (T.held trace.old) (T.held trace.new)
-        (lines_past symbols.now skipped 0 (events_before stop schedule input.now machine.old) machine.old)) }
+        (lines_past (says_of form.entry) skipped 0 (events_before stop schedule input.now machine.old) machine.old)) }
     ensures end { IfOk result (λ ran. ran.end ≡ end_of machine.new) }
     ensures steps { IfOk result (λ ran. ran.steps ≡ steps_in (events_before stop schedule input.now machine.old)) }
-    ensures cut { IfErr result (λ fault. WasCut symbols.now fault skipped 0 (events_before stop schedule input.now machine.old) machine.old
+    ensures cut { IfErr result (λ fault. WasCut (says_of form.entry) fault skipped 0 (events_before stop schedule input.now machine.old) machine.old
         machine.new (W.held sink.old) (W.held sink.new) (T.held trace.old) (T.held trace.new)) }
     ensures count { CountsTraced result (W.failed sink.old) (W.failed sink.new) (T.failed trace.old) (T.failed trace.new) }
 {
     match stop {
-        None => run_traced(machine, schedule, input, skipped, symbols, sink, trace),
-        Some(number) => trace_to(
-            machine, schedule, input, number, skipped, symbols, sink, trace,
-        ),
+        None => run_traced(machine, schedule, input, skipped, form, sink, trace),
+        Some(number) => trace_to(machine, schedule, input, number, skipped, form, sink, trace),
     }
 }
 
@@ -190,8 +186,8 @@ pub fn count_steps<C: CapRep>(
 /// How many lines a trace of a run of so many steps leaves out: those of the steps before the one numbered `from`, counted from 1, and all
 /// but the last so many.
 pub fn lines_skipped(from: u64, last: u64, steps: u64) -> u64
-    ensures { (symbols : List Symbol) (events : List Event) (s : State) → steps ≡ steps_in events
-        → trace_text symbols from (Some last) events s ≡ lines_past symbols result 0 events s }
+    ensures { (says : Says) (events : List Event) (s : State) → steps ≡ steps_in events
+        → trace_text says from (Some last) events s ≡ lines_past says result 0 events s }
 {
     from.saturating_sub(1).max(steps.saturating_sub(last))
 }

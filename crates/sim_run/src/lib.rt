@@ -14,8 +14,8 @@ mod unhandled;
 
 pub use before::{count_steps, lines_skipped, run_before, run_traced_before};
 pub use ending::{ending_lines, verdict};
-pub use object::ending_object;
+pub use object::{ending_object, stopped_objects};
 pub use profile::profile_before;
 pub use run::{Ran, run_counted, run_scheduled};
 pub use stopping::{StopAt, find_stop, stopped_lines, stops_before};
-pub use traced::{TraceFault, run_traced};
+pub use traced::{Form, TraceFault, run_traced};

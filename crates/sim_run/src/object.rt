@@ -4,7 +4,7 @@ ghost use Rattle.std.specs.Prelude.{◌≡◌, ◌++◌, IfOk, OnOk, string_byte
 ghost use Rattle.hart.specs.Opening.{opening};
 ghost use Rattle.machine.specs.Run.{run_after};
 ghost use Rattle.schedules.specs.Schedule.{scheduled, IsRunnable};
-ghost use Rattle.sim_run.specs.Object.{end_fields, ending_object, fault_fields, last_trap_field, run_fields, trap_field};
+ghost use Rattle.sim_run.specs.Object.{end_fields, ending_object, fault_fields, last_trap_field, run_fields, stopped_objects, trap_field};
 ghost use Rattle.sim_run.specs.Unhandled.{trap_left};
 ghost use Rattle.sim_run.specs.Watched.{fields_of};
 
@@ -14,7 +14,7 @@ use crate::run::Ran;
 use crate::unhandled::traps_taken;
 use base::Fault;
 use cap_bounds::CapRep;
-use explain::trap_text;
+use explain::{put_why_objects, trap_text};
 use image::Image;
 use machine::{End, Machine};
 use objects::{Item, Writer, begin, finish, put, put_place};
@@ -175,4 +175,26 @@ pub fn ending_object<C: CapRep>(
     put_end(&mut object, symbols, machine, ran)?;
     put_traps(&mut object, symbols, machine, taken)?;
     finish(object)
+}
+
+/// The lines of objects that say where a run ended before a step that traps, of the same values as `stopped_lines`: how it ended, how many
+/// steps were done and where PCC is; and what the next step will do, and why, an object a line.
+///
+/// # Errors
+///
+/// Out of memory.
+#[tactic(auto, unfolding(crate::specs::Object::stopped_objects))]
+pub fn stopped_objects<C: CapRep>(
+    alloc: Global,
+    symbols: &Symbols,
+    machine: &Machine<C>,
+    ran: Ran,
+) -> Result<String, AllocError>
+    ensures { IfOk result (λ text. string_bytes text ≡ stopped_objects symbols.now ran.end ran.steps machine.now) }
+{
+    let mut object = begin(alloc)?;
+    put_end(&mut object, symbols, machine, ran)?;
+    let mut text = finish(object)?;
+    put_why_objects(&mut text, symbols, machine.hart())?;
+    Ok(text)
 }

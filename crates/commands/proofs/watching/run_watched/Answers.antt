@@ -10,7 +10,7 @@ pub returns-in_ok-ran-in-Some-clause-ok : goal.returns-in_ok-ran-in-Some-clause-
 returns-in_ok-ran-in-Some-clause-ok g c =
     let run = c.args.run.now in
     let left = c.in_ok-ran-in-Some.ensures in
-    let stops = IsStopOf c.args.rules.now (run_of run) run.request.quiet in
+    let stops = IsStopOf c.args.rules.now (run_of run) run.request.json run.request.quiet in
     stopped c.in-Some.stop.number (subst stops c.in-Some.is c.in_ok-stop.ensures.ok)
     (record { sent = left.sent; written = left.files; end = left.ran.end ∙ ap end_of left.ran.state })
 
@@ -18,6 +18,6 @@ pub returns-in_err-ran-in-Some-clause-err : goal.returns-in_err-ran-in-Some-clau
 returns-in_err-ran-in-Some-clause-err g c =
     let p = err_from_is_err_and c.from_residual-in_err-ran-in-Some.result c.from_residual-in_err-ran-in-Some.ensures.1 in
     let run = c.args.run.now in
-    let stops = IsStopOf c.args.rules.now (run_of run) run.request.quiet in
+    let stops = IsStopOf c.args.rules.now (run_of run) run.request.json run.request.quiet in
     rw (p.1, p.2)
     (fails_stopped c.in-Some.stop.number _ (subst stops c.in-Some.is c.in_ok-stop.ensures.ok) c.in_err-ran-in-Some.ensures.err)

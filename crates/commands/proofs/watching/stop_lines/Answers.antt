@@ -1,7 +1,7 @@
 use Rattle.std.proofs.Common.{◌≡◌, ◌∙◌, ◌<◌, ◌-◌, get_or, ap, subst}
 use Rattle.std.specs.Prelude.{IsUtf8}
-use Rattle.breach_texts.specs.Text.{refused_lines}
 use Rattle.policy_text.specs.Policy.{line_text}
+use Rattle.commands.specs.Watching.{refused_by}
 use Rattle.commands.proofs.Policies.{same-element}
 use Rattle.commands.proofs.watching.stop_lines.Goals as goal
 
@@ -20,6 +20,6 @@ returns-in-Ok-clause-told c = λ _.
           → rule ≡ line_text t (get_or policy.lines.items refused.rule 1))
           c.deref.ensures.value by_number,
       c.in-Ok.ensures
-          ∙ ap (λ n. refused_lines c.args.run.now.table n rule refused (c.args.breach.number - 1) c.args.machine.now)
+          ∙ ap (λ n. refused_by c.args.run.now.request.json c.args.run.now.table n rule refused (c.args.breach.number - 1) c.args.machine.now)
           (c.rule_line-rule.ensures.number ∙ number),
     )

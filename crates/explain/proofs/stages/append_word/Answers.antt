@@ -1,4 +1,4 @@
-use Rattle.std.proofs.Common.{◌≡◌, ◌++◌, ap, ◌∙◌, append-nil, sym, refl}
+use Rattle.std.proofs.Common.{◌++◌, ap, ◌∙◌, append-nil, sym}
 use Rattle.std.specs.Prelude.{string_bytes}
 use Rattle.std.proofs.lemmas.Result.{on_ok_weaker}
 use Rattle.explain.specs.Asked.{decoding}

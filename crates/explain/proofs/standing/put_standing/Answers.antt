@@ -2,7 +2,6 @@ use Rattle.std.proofs.Common.{◌≡◌, ◌++◌, ap, ◌∙◌}
 use Rattle.std.proofs.lemmas.Result.{on_ok_weaker}
 use Rattle.std.specs.Prelude.{codes, decimal, string_bytes}
 use Rattle.cap_bounds.specs.CapValue.{value_address}
-use Rattle.special_regs.specs.Scrs.{Scrs}
 use Rattle.steps.specs.State.{pc_of}
 use Rattle.symbols.specs.Labels.{labelled}
 use Rattle.explain.proofs.standing.put_standing.Goals as goal

@@ -1,9 +1,9 @@
-use Rattle.std.proofs.Common.{◌≡◌, ◌+◌, ◌++◌, ◌≤◌, true, [], ap, sym, ◌∙◌, rules, arith}
-use Rattle.std.specs.Prelude.{None, is_some, string_bytes}
+use Rattle.std.proofs.Common.{◌≡◌, ◌+◌, ◌++◌, ◌≤◌, true, ap, sym, ◌∙◌, rules, arith}
+use Rattle.std.specs.Prelude.{is_some, string_bytes}
 use Rattle.machine.specs.Run.{run_after}
 use Rattle.schedules.specs.Schedule.{first_steps, is_halted, up_to_halt}
 use Rattle.schedules.proofs.SingleSteps.{more_count}
-use Rattle.policy_audit.specs.Entries.{Entered, adds_entry, entries_text, says_entry}
+use Rattle.policy_audit.specs.Entries.{adds_entry, entries_text, none_entered, says_entry}
 use Rattle.policy_audit.specs.Recalled.{recalled}
 use Rattle.policy_audit.proofs.Telling.{ends_here, memory_next, state_more, text_next}
 use Rattle.policy_audit.proofs.entries.entries_run.Goals as goal
@@ -14,7 +14,6 @@ loop-done-preserved g c =
     let s = c.args.machine.now in
     let few : l.done + 1 ≤ c.args.schedule.steps = omega (arith, c.loop-done-test.true) in
     let told = c.in_ok-tell_around.ensures in
-    let none : Entered = record { code = None; lines = [] } in
     record {
       few = few;
       state = state_more c.args.schedule c.args.input.now l.done s l.machine c.tell_around.new.machine c.requires.running
@@ -22,11 +21,12 @@ loop-done-preserved g c =
       steps = more_count c.args.schedule c.args.input.now l.done s l.machine c.requires.running l.invariant.state
           l.invariant.running few l.invariant.steps;
       running = search rules;
-      recalled = memory_next says_entry adds_entry c.args.schedule c.args.input.now l.done s l.machine
-          c.requires.running l.invariant.state l.invariant.running few l.invariant.steps none (recalled l.entries) l.invariant.recalled
-          (recalled c.tell_around.new.entries) told.recalled;
-      text = text_next says_entry adds_entry c.args.schedule c.args.input.now l.done s l.machine
-          c.requires.running l.invariant.state l.invariant.running few l.invariant.steps none (recalled l.entries) l.invariant.recalled
+      recalled = memory_next (says_entry c.args.json) adds_entry c.args.schedule c.args.input.now l.done s l.machine
+          c.requires.running l.invariant.state l.invariant.running few l.invariant.steps none_entered (recalled l.entries)
+          l.invariant.recalled (recalled c.tell_around.new.entries) told.recalled;
+      text = text_next (says_entry c.args.json) adds_entry c.args.schedule c.args.input.now l.done s l.machine
+          c.requires.running l.invariant.state l.invariant.running few l.invariant.steps none_entered (recalled l.entries)
+          l.invariant.recalled
           (string_bytes c.args.text.now) (string_bytes l.text) (string_bytes c.tell_around.new.text) l.invariant.text told.text;
     }
 
@@ -51,11 +51,10 @@ returns-then-is_some-clause-text g c =
     let few : l.done + 1 ≤ c.args.schedule.steps = omega (arith, c.loop-done-test.true) in
     let halted : is_halted u ≡ true = ap is_some (sym c.halted.ensures.value) ∙ sym c.is_some.ensures ∙ c.if-is_some.true in
     let told = c.in_ok-tell_around.ensures in
-    let none : Entered = record { code = None; lines = [] } in
-    text_next says_entry adds_entry c.args.schedule c.args.input.now l.done s l.machine
-    c.requires.running l.invariant.state l.invariant.running few l.invariant.steps none (recalled l.entries) l.invariant.recalled
+    text_next (says_entry c.args.json) adds_entry c.args.schedule c.args.input.now l.done s l.machine
+    c.requires.running l.invariant.state l.invariant.running few l.invariant.steps none_entered (recalled l.entries) l.invariant.recalled
     (string_bytes c.args.text.now) (string_bytes l.text) (string_bytes c.tell_around.new.text) l.invariant.text told.text
-    ∙ ap (λ es. string_bytes c.args.text.now ++ entries_text es s)
+    ∙ ap (λ es. string_bytes c.args.text.now ++ entries_text c.args.json es s)
     (ends_here c.args.schedule c.args.input.now l.done s l.machine u c.requires.running l.invariant.state l.invariant.running few
     told.state halted)
 
@@ -65,7 +64,8 @@ returns-clause-text g c =
     let s = c.args.machine.now in
     let all : l.done ≡ c.args.schedule.steps = omega (arith, l.invariant.few, c.loop-done-test.false) in
     l.invariant.text
-    ∙ ap (λ n. string_bytes c.args.text.now ++ entries_text (up_to_halt (first_steps c.args.schedule c.args.input.now n) s) s) all
+    ∙ ap (λ n. string_bytes c.args.text.now
+    ++ entries_text c.args.json (up_to_halt (first_steps c.args.schedule c.args.input.now n) s) s) all
 
 pub returns-clause-state : goal.returns-clause-state
 returns-clause-state g c =

@@ -20,7 +20,7 @@ returns-clause-text g c =
     let s = c.args.machine.now in
     c.in_ok-tell.ensures.text
     ∙ ap (λ t. string_bytes c.args.text.now ++ t)
-    (sym (told_of_block says_entry adds_entry
+    (sym (told_of_block (says_entry c.args.json) adds_entry
     (byte_before c.args.schedule c.args.input.now (c.args.done + 1)) (is_tick_after c.args.schedule (c.args.done + 1)) s
     c.bring.new.machine c.requires.running (c.bring.ensures ∙ ap (λ b. run_after (brought b) s) c.byte_before.ensures) c.args.done
     (recalled c.args.entries.now)))
@@ -29,7 +29,7 @@ pub returns-clause-recalled : goal.returns-clause-recalled
 returns-clause-recalled g c =
     let s = c.args.machine.now in
     c.in_ok-tell.ensures.recalled
-    ∙ sym (remembered_of_block says_entry adds_entry
+    ∙ sym (remembered_of_block (says_entry c.args.json) adds_entry
     (byte_before c.args.schedule c.args.input.now (c.args.done + 1)) (is_tick_after c.args.schedule (c.args.done + 1)) s
     c.bring.new.machine c.requires.running (c.bring.ensures ∙ ap (λ b. run_after (brought b) s) c.byte_before.ensures)
     (recalled c.args.entries.now))

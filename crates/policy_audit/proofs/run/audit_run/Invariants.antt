@@ -19,8 +19,8 @@ invariant-loop-done g l = record {
   notes : notes_of l.audit
       ≡ audit_notes (terms_of l.rules) (up_to_halt (first_steps l.schedule l.input l.done) l.fn.machine) l.fn.machine;
   text : string_bytes l.text ≡ string_bytes l.fn.text
-      ++ audit_text l.symbols l.lines (terms_of l.rules) (up_to_halt (first_steps l.schedule l.input l.done) l.fn.machine)
-      l.fn.machine;
+      ++ audit_text l.report.json l.report.symbols.now l.report.lines.now (terms_of l.rules)
+      (up_to_halt (first_steps l.schedule l.input l.done) l.fn.machine) l.fn.machine;
 }
 
 abbrev pub decreases-loop-done : goal.decreases-loop-done

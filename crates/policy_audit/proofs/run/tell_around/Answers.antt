@@ -24,17 +24,19 @@ returns-clause-state g c =
 
 pub returns-clause-text : goal.returns-clause-text
 returns-clause-text g c =
+    let report = c.args.report.now in
     let s = c.args.machine.now in
     let said = said_to c.args.audit.now in
     c.in_ok-tell.ensures.text
     ∙ ap (λ t. string_bytes c.args.text.now ++ t)
-    (sym (told_of_block (says_found c.args.symbols.now c.args.lines.now) (adds_found said)
+    (sym (told_of_block (says_found report.json report.symbols.now report.lines.now) (adds_found said)
     (byte_before c.args.schedule c.args.input.now (c.args.done + 1)) (is_tick_after c.args.schedule (c.args.done + 1)) s
     c.bring.new.machine c.requires.running (c.bring.ensures ∙ ap (λ b. run_after (brought b) s) c.byte_before.ensures) c.args.done
     (notes_of c.args.audit.now)))
 
 pub returns-clause-notes : goal.returns-clause-notes
 returns-clause-notes g c =
+    let report = c.args.report.now in
     let s = c.args.machine.now in
     let t = c.bring.new.machine in
     let audit = c.args.audit.now in
@@ -42,7 +44,7 @@ returns-clause-notes g c =
     let now : rules_of c.pass.new.self ≡ in_force_after (said_to audit) (rules_of audit) Step t =
     c.in_ok-pass.ensures.rules ∙ ap₂ (λ x y. in_force_after x y Step t) c.tell.ensures.said c.tell.ensures.rules in
     ap₂ (λ x y. as_notes x y) seen now
-    ∙ sym (remembered_of_block (says_found c.args.symbols.now c.args.lines.now) (adds_found (said_to audit))
+    ∙ sym (remembered_of_block (says_found report.json report.symbols.now report.lines.now) (adds_found (said_to audit))
     (byte_before c.args.schedule c.args.input.now (c.args.done + 1)) (is_tick_after c.args.schedule (c.args.done + 1)) s
     c.bring.new.machine c.requires.running (c.bring.ensures ∙ ap (λ b. run_after (brought b) s) c.byte_before.ensures)
     (notes_of audit))

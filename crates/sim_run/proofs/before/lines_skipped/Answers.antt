@@ -3,4 +3,4 @@ use Rattle.sim_run.proofs.FirstSteps.{last_kept}
 use Rattle.sim_run.proofs.before.lines_skipped.Goals as goal
 
 pub returns : goal.returns
-returns c = λ symbols events s count. last_kept symbols c.args.from c.args.last _ c.args.steps events s (omega arith) count
+returns c = λ says events s count. last_kept says c.args.from c.args.last _ c.args.steps events s (omega arith) count

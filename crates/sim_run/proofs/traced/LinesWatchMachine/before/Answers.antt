@@ -12,7 +12,7 @@ pub returns-clause-err : goal.returns-clause-err
 returns-clause-err g c = λ on.
     let few = not_last c.args.self.now.number c.requires.ready.2 on in
     on_missed c.write_line.result _ _ c.write_line.ensures.count (c.write_line.ensures.err few)
-    (λ missed more. (refl, record { lines = missed; failed = more }))
+    (λ fault missed more. (refl, record { lines = missed; failed = more }))
 
 pub returns-clause-ready : goal.returns-clause-ready
 returns-clause-ready g c =

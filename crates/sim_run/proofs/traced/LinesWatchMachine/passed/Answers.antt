@@ -2,6 +2,7 @@ use Rattle.std.proofs.Common.{◌+◌, refl, sym, ap, ◌∙◌, replicate, arit
 use Rattle.std.proofs.Math.Nat.{min-eq_left}
 use Rattle.steps.specs.declared.event.Event.TheVariants.{Step}
 use Rattle.sim_run.specs.LineLaws.{wrote_skipped}
+use Rattle.sim_run.specs.Trace.{says_of}
 use Rattle.sim_run.proofs.LeftTraps.{steps_in-steps}
 use Rattle.sim_run.proofs.WatchedSteps.{few_skipped}
 use Rattle.sim_run.proofs.traced.LinesWatchMachine.passed.Goals as goal
@@ -17,6 +18,6 @@ returns-clause-ok g c = λ s there sends silent goes.
       refl,
       refl,
       refl,
-      wrote_skipped w.symbols.now w.skipped w.number (replicate n Step) s (g.T.Sink.held w.trace.now)
+      wrote_skipped (says_of w.form) w.skipped w.number (replicate n Step) s (g.T.Sink.held w.trace.now)
           (g.T.Sink.failed w.trace.now) c.saturating_add-self.result (rw count few) (now ∙ ap (λ k. w.number + k) (sym count)),
     )
