@@ -13,6 +13,7 @@ from ._objects import line as _line
 from ._origins import Place, Told, place_of
 from ._replay import Replay
 from ._symbols import NAME
+from ._why import why_objects
 
 _NO = {False: "no, until the next trap, unsealing or sealed jump\n", True: "no, until the next trap or unsealing\n"}  # through doors
 _MOVES = ("step", "tick", "byte", "until", "trap", "go", "changed", "back")
@@ -29,7 +30,7 @@ _RIGHTS = (("load", Perms.Load), ("load capabilities", Perms.Load | Perms.Load_C
 _DEVICES = (("halt", 0x100000), ("mtimecmp", 0x2004000), ("mtime", 0x200BFF8), ("transmit", 0x10000000), ("receive", 0x10000008),
             ("status", 0x10000010), ("control", 0x10000018))
 
-HELP = """why                     what the next step will do, and why
+HELP = """why                     what the next step will do, and why; why json: objects
 regs, scr, csr          general, special capability, control and status registers
 reg R                   a general or special register as a capability
 caps                    the capabilities in RAM
@@ -167,8 +168,10 @@ class Monitor:
             text += f"{self._symbols.shown(begin + n)} {word:08x} {disassemble(word, mode)}{self._symbols.line(begin + n)}\n"
         return text
 
-    def _why(self) -> str:
-        return self._machine.why()
+    def _why(self, what: str = "") -> str:
+        if what not in ("", "json"):
+            raise Fault("B2")
+        return why_objects(self._machine, self._symbols) if what else self._machine.why()
 
     def _past(self, word: str) -> Place:
         """A place whose past is asked for."""

@@ -12,6 +12,8 @@ import unittest
 
 import support
 from support import PAGE, RAM, read
+from cases import why_objects
+from cases.program_lines import image
 from cherisim import CSRS, SCRS, Machine, Stop, Symbols, SymbolsFault, TextFault
 from cherisim import elf, gdb
 from cherisim._described import INTEGERS, registers
@@ -275,7 +277,21 @@ class Monitored(unittest.TestCase):
                           "opening state: ca0 v:0 a:0000000000000003 b:0000000000000000 t:10000000000000000 p:00000 f:0 o:3ffff\n",
                           "reg R                   a general or special register as a capability\n",
                           "B1, B2, B3              refused: no such command; its operands; a byte outside RAM\n", "fault B2\n"])
-        self.assertEqual(self.said(machine, "why"), [machine.why()])
+        self.assertEqual(self.said(machine, "why", "why 1", "why json json"), [machine.why(), "fault B2\n", "fault B2\n"])
+
+    def test_why_objects(self):
+        """`why json`, as the model answers the debugger's cases."""
+        for about, text, talk in why_objects.CONVERSATIONS:
+            names = dict(word.split("=") for word in talk.partition("\n")[0].split()[1:] if talk.startswith("& "))
+            table = sorted((int(at, 16), name) for name, at in names.items())
+            machine = Machine(image(text or ".word 0"), symbols=Symbols.read("".join(f"{at:016x} {name}\n" for at, name in table)))
+            for asked in re.split("(?m)^> ", talk)[1:]:
+                command, _, reply = asked.partition("\n")
+                if command.startswith("step "):
+                    machine.step(int(command[5:]))
+                else:
+                    came = "".join(it.lstrip("O") for it in replies(machine, "qRcmd," + command.encode().hex()))
+                    self.assertEqual(bytes.fromhex(came).decode(), reply.rstrip("\n") + "\n", about)
 
     def test_past(self):
         """What a value was made of, with labels and lines of the source; the machine stays where it is."""
