@@ -7,10 +7,11 @@ PROGRAM is the proved program, as the gate leaves it: crates/cherisim/out/cheris
 it sends in NAME.out, and NAME.in where bytes come in; it must halt with 0 within 100000 steps, and do the same under NAME.policy where
 there is one. Where a page shows a session with it, what is typed stands in NAME.commands and what is answered in NAME.replies. A policy has
 the text's labels, and so have sessions whose page gives them. And a byte that no line feed follows is seen while the program that sent it
-still runs.
+still runs, and goes on sending; how many steps were done is shown while it runs, on a terminal alone, unless the run is quiet.
 """
 import glob
 import os
+import re
 import select
 import subprocess
 import sys
@@ -28,9 +29,19 @@ LABELLED = ("compartments",)
 
 STEPS = "100000"
 
-# A program that sends a byte without a line feed after it, and loops; and what runs it for hours.
-PROMPT = "lui a1, 0x10000\naddi a0, zero, 62\nsb a0, 0(a1)\nloop: jal zero, loop\n"
+# A program that sends a byte every 65,538 steps, and never a line feed; and what runs it for hours.
+PROMPTS = """lui a1, 0x10000
+addi a0, zero, 62
+again: sb a0, 0(a1)
+lui a2, 8
+wait: addi a2, a2, -1
+bne a2, zero, wait
+jal zero, again
+"""
 FOR_HOURS = ["100000000", "--times", "1000000"]
+# What shows how far a run came, and how long it takes for one that isn't to be shown it.
+COUNT = re.compile(rb"cherisim: ([0-9]+) steps\r?\n")
+TOO_LONG = 4
 # How long a command may take.
 SECONDS = 120
 
@@ -70,18 +81,39 @@ def wrong(program, name, room):
     return ""
 
 
-def is_shown(program, room):
-    """Whether a byte that no line feed follows is seen while the program that sent it still runs."""
-    text, image = (os.path.join(room, name) for name in ("prompt.s", "prompt.img"))
+def prompting(program, room):
+    """The words that run the program that prompts, for hours."""
+    text, image = (os.path.join(room, name) for name in ("prompts.s", "prompts.img"))
     with open(text, "w", encoding="ascii") as file:
-        file.write(PROMPT)
+        file.write(PROMPTS)
     came([program, "asm", text, image])
-    with subprocess.Popen([program, "run", image, *FOR_HOURS], stdout=subprocess.PIPE) as running:
+    return [program, "run", image, *FOR_HOURS]
+
+
+def begun(file, seconds):
+    """What comes first of an output in so many seconds, or nothing."""
+    return os.read(file, 64) if select.select([file], [], [], seconds)[0] else b""
+
+
+def seen(words, seconds=SECONDS):
+    """What is seen of a run that is still at work: the first byte that it sends, and what it first says on a terminal in so many seconds."""
+    terminal, of_run = os.openpty()
+    with subprocess.Popen(words, stdout=subprocess.PIPE, stderr=of_run) as running:
         try:
-            ready, _, _ = select.select([running.stdout], [], [], SECONDS)
-            return bool(ready) and running.stdout.read(1) == b">" and running.poll() is None
+            sent, told = begun(running.stdout.fileno(), SECONDS)[:1], begun(terminal, seconds)
+            return (sent, told) if running.poll() is None else (b"", b"")
         finally:
             running.kill()
+            os.close(terminal)
+            os.close(of_run)
+
+
+def is_shown(program, room):
+    """Whether a byte is seen while the program that sends more runs, and how many steps were done: some million, unless it is quiet."""
+    words = prompting(program, room)
+    (sent, told), (_, untold) = seen(words), seen([*words, "--quiet"], TOO_LONG)
+    count = COUNT.fullmatch(told)
+    return sent == b">" and bool(count) and int(count[1]) >= 1000000 and not untold
 
 
 def tried(program, name, room):
@@ -103,7 +135,7 @@ def main():
     with tempfile.TemporaryDirectory(prefix="examples-") as room:
         all_tried = all([tried(program, name, room) for name in names])
         shown = is_shown(program, room)
-    print("a byte that no line feed follows: " + ("seen while the program runs" if shown else "kept back"))
+    print("a byte that no line feed follows, and how many steps were done: " + ("seen while a run goes on" if shown else "not seen"))
     return 0 if names and all_tried and shown else 1
 
 

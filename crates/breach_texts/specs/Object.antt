@@ -1,10 +1,11 @@
 -- What breaks a rule of a policy, as an object: the values of its text.
 use Rattle.std.specs.Prelude.{ℕ, List, [], ◌++◌, Option, Some, None, slice_get, codes}
 use Rattle.json.specs.Token.{Token}
-use Rattle.steps.specs.State.{State, pc_of}
+use Rattle.steps.specs.State.{State}
 use Rattle.symbols.specs.Symbols.{Symbol}
-use Rattle.objects.specs.Items.{null_field, number_field, object_field, object_line, text_field}
-use Rattle.objects.specs.Places.{place_field}
+use Rattle.explain.specs.StandingText.{standing_fields}
+use Rattle.explain.specs.declared.standing.Standing.{Standing}
+use Rattle.objects.specs.Items.{number_field, object_field, object_line, text_field}
 use Rattle.policy.specs.declared.rule.Ban.{Ban}
 use Rattle.policy.specs.declared.refused.Refused.{Refused}
 use Rattle.reach.specs.Reach.{members_in}
@@ -37,13 +38,11 @@ broken_fields symbols members ban member =
 unfoldable pub breach_fields : List Symbol → List Found → ℕ → List ℕ → Ban → ℕ → List Token
 breach_fields symbols members number rule ban member = rule_field number rule ++ broken_fields symbols members ban member
 
--- where a run stands that goes on, by the keys of a run's end: it wasn't halted
-unfoldable pub standing_fields : List Symbol → ℕ → State → List Token
-standing_fields symbols steps s =
-    (number_field (codes "status") 1 ++ null_field (codes "halted") ++ number_field (codes "steps") steps)
-    ++ place_field (codes "pcc") symbols (pc_of s)
+-- a run that wasn't halted
+abbrev pub stopped : ℕ → Standing
+stopped steps = record { status = 1; halted = None; steps = steps }
 
 -- the line that tells where a rule stopped a run
 abbrev pub refused_object : List Symbol → ℕ → List ℕ → Refused → ℕ → State → List ℕ
 refused_object symbols number rule refused steps s =
-    object_line (standing_fields symbols steps s ++ breach_fields symbols (members_in s) number rule refused.ban refused.member)
+    object_line (standing_fields symbols (stopped steps) s ++ breach_fields symbols (members_in s) number rule refused.ban refused.member)

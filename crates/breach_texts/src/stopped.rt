@@ -1,16 +1,15 @@
 //! Where a rule stopped a run, as lines and as an object.
 ghost use Rattle.std.specs.Prelude.{◌≡◌, ◌<◌, ◌++◌, length, IfOk, OnOk, string_bytes};
 ghost use Rattle.reach.specs.Reach.{members_in};
-ghost use Rattle.steps.specs.State.{pc_of};
-ghost use Rattle.breach_texts.specs.Object.{refused_object, standing_fields};
+ghost use Rattle.breach_texts.specs.Object.{refused_object};
 ghost use Rattle.breach_texts.specs.Text.{refused_lines};
 
 use crate::breach::{RuleLine, put_breach};
 use crate::object::put_breach_fields;
 use cap_bounds::CapRep;
-use explain::put_standing;
+use explain::{Standing, put_standing, put_standing_fields};
 use machine::Machine;
-use objects::{Item, Writer, begin, finish, put, put_place};
+use objects::{begin, finish};
 use policy::Refused;
 use reach::Reach;
 use std::alloc::{AllocError, Global};
@@ -53,34 +52,6 @@ pub fn refused_lines<C: CapRep>(
     Ok(text)
 }
 
-/// PCC's address.
-fn pc<C: CapRep>(machine: &Machine<C>) -> u64
-    ensures { result ≡ pc_of machine.now }
-{
-    machine.hart().scrs().pcc().address()
-}
-
-/// Says where a run stands that goes on, by the keys of a run's end: how many steps were done, and where PCC is.
-fn put_standing_fields<C: CapRep>(
-    object: &mut Writer,
-    machine: &Machine<C>,
-    symbols: &Symbols,
-    steps: u64,
-) -> Result<(), AllocError>
-    ensures tokens { OnOk result (object.new.tokens ≡ object.old.tokens ++ standing_fields symbols.now steps machine.now) }
-    ensures alone { object.new.before ≡ object.old.before }
-{
-    put(
-        object,
-        &[
-            Item::Number("status", 1),
-            Item::Null("halted"),
-            Item::Number("steps", steps),
-        ],
-    )?;
-    put_place(object, "pcc", symbols, pc(machine))
-}
-
 /// The line of an object that says where a run ended that a rule stopped, of the same values as `refused_lines`.
 ///
 /// # Errors
@@ -100,7 +71,12 @@ pub fn refused_object<C: CapRep>(
 {
     let reach = Reach::of(alloc, machine.hart())?;
     let mut object = begin(alloc)?;
-    put_standing_fields(&mut object, machine, symbols, steps)?;
+    let standing = Standing {
+        status: 1,
+        halted: None,
+        steps,
+    };
+    put_standing_fields(&mut object, symbols, machine.hart(), standing)?;
     put_breach_fields(
         &mut object,
         alloc,

@@ -1,5 +1,6 @@
 //! The host's files.
 
+use crate::waiting::Waiting;
 use program::Folder;
 use std::fs::{self, File};
 use std::io::{self, Read, StdinLock};
@@ -60,10 +61,12 @@ impl Disk<'_> {
     }
 }
 
-impl Folder for Disk<'_> {
+impl<'a> Folder for Disk<'a> {
     type Opened = Opened;
 
     type Made = File;
+
+    type Waiting = Waiting<'a>;
 
     fn is_same(&self, name: &str, other: &str) -> bool {
         match (fs::metadata(self.rt, name), fs::metadata(self.rt, other)) {
@@ -90,6 +93,10 @@ impl Folder for Disk<'_> {
 
     fn make(&mut self, name: &str) -> io::Result<File> {
         File::create(self.rt, name)
+    }
+
+    fn waiting(&self, is_quiet: bool) -> Waiting<'a> {
+        Waiting::new(self.rt, is_quiet)
     }
 
     fn close(&mut self, _name: &str, file: File) {

@@ -5,6 +5,7 @@ ghost use Rattle.std.specs.Prelude.{◌-◌, ◌^◌, ◌<◌};
 
 mod disk;
 mod pipe;
+mod waiting;
 
 use disk::Disk;
 use pipe::Pipe;

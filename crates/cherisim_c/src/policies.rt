@@ -16,7 +16,7 @@ use crate::types::{Breach, Timetable};
 use machine::Machine;
 use policy::{Ban, Rule};
 use policy_runs::{Breach as Found, find_breach};
-use schedules::Schedule;
+use schedules::{Nobody, Schedule};
 use std::alloc::{AllocError, Global};
 use word_cap::WordCap;
 
@@ -35,7 +35,7 @@ fn breach_ahead(
         return Ok(None);
     }
     let mut copy = cloned(alloc, machine)?;
-    find_breach(alloc, &mut copy, rules, schedule, input)
+    find_breach(alloc, &mut copy, rules, schedule, input, &mut Nobody)
 }
 
 /// The number of a part of a rule.

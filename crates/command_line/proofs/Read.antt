@@ -1,26 +1,47 @@
 -- What is read of the arguments that clap found, and of the table: facts that a search finds late.
 use Rattle.std.proofs.Common.{◌≡◌, ◌∙◌, ℕ, ◌-◌, ◌≤◌, List, [], ◌∷◌, refl, sym, ap, subst, codes, arith}
 use Rattle.std.proofs.Common.{map, length, take, drop, slice_index_or}
-use Rattle.std.specs.Prelude.{Option, Some, None, IsSome, IsTrue, Bool, true, false, ◌&&◌, ◌||◌, if◌then◌else◌, option_map, bytes_eq}
+use Rattle.std.specs.Prelude.{Option, Some, None, IsSome, Bool, true, false, if◌then◌else◌, option_map, option_and_then, unwrap_or}
+use Rattle.std.specs.Prelude.{bytes_eq}
 use Rattle.std.specs.Borrow.{Bor}
 use Rattle.std.proofs.lemmas.List.{take_all}
 use Rattle.clap.specs.Words.{App, Row, Text, first_of, with_rule, with_subcommand}
+use Rattle.command_line.specs.declared.plans.Why.{Why}
+use Rattle.command_line.specs.declared.table.Stands.{Stands}
 use Rattle.command_line.specs.declared.table.Takes.{Takes}
 use Rattle.command_line.specs.declared.table.Takes.TheVariants.{Nothing, Ends, Read, ReadBeside, Written, Count, Start, Number}
-use Rattle.command_line.specs.CommandLine.{ArgumentRead, Line, Said, File, Amount, line_of, entry_of}
-use Rattle.command_line.specs.CommandLine.{count_in, counted, is_file, is_needed, is_number, is_start, is_within}
+use Rattle.command_line.specs.CommandLine.{ArgumentRead, Line, Said, File, Amount, Used, Explained, argument, line_of, entry_of}
+use Rattle.command_line.specs.CommandLine.{count_in, counted, is_file, is_needed, is_true, is_within, why_of}
 use Rattle.command_line.specs.CommandLine.{said_by, said_of, said_of_text, unsaid, written_number}
 use Rattle.command_line.specs.CommandLine.{command, rule, with_arguments, with_commands}
-use Rattle.command_line.proofs.Found.{both}
 
--- ---- a file that must be there
+-- ---- what is said of an argument, by what was found of it
 
+unneeded : (needed : Bool) (o : Option Said) → IsSome (if needed then None else o) → (if needed then None else o) ≡ o
+unneeded true o fit = cc
+unneeded false o fit = refl
+
+-- where it must be there, it is
+there : (rows : List Row) (line : Line) → is_needed line ≡ true → IsSome (said_of rows line) → IsSome (first_of line.id rows)
+unfolding said_of
+there rows line needed fit = go (first_of line.id rows) fit
+  where
+    go : (o : Option Text) → IsSome (said_of_text line o) → IsSome o
+    go (Some text) fit = refl
+    go None fit = subst (λ (b : Bool). IsSome (if b then None else unsaid line.takes)) needed fit
+
+pub operand_there : (rows : List Row) (id : Text) (stands : Stands) (takes : Takes) (default : Option Text)
+    → IsSome (said_of rows (argument id stands takes default)) → is_needed (argument id stands takes default) ≡ true
+    → IsSome (first_of id rows)
+operand_there rows id stands takes default fit needed = there rows (argument id stands takes default) needed fit
+
+-- a file
 beside : (is_input : Bool) (said : Said) → IsSome (if is_input then None else Some said)
     → (if is_input then None else Some said) ≡ Some said
 beside true said fit = cc
 beside false said fit = refl
 
-file_by : (takes : Takes) (text : Text) → IsTrue (is_file takes) → IsSome (said_by takes text)
+file_by : (takes : Takes) (text : Text) → is_file takes ≡ true → IsSome (said_by takes text)
     → said_by takes text ≡ Some (File (Some text))
 file_by Nothing text kind fit = cc
 file_by Ends text kind fit = cc
@@ -31,146 +52,136 @@ file_by (Count least most) text kind fit = cc
 file_by (Start least most) text kind fit = cc
 file_by Number text kind fit = cc
 
-pub operand_said : (rows : List Row) (line : Line) (text : Text) → Some text ≡ first_of line.id rows
-    → IsTrue (is_file line.takes && is_needed line) → IsSome (said_of rows line) → said_of rows line ≡ Some (File (Some text))
+file_unsaid : (takes : Takes) → is_file takes ≡ true → unsaid takes ≡ Some (File None)
+file_unsaid Nothing kind = cc
+file_unsaid Ends kind = cc
+file_unsaid Read kind = refl
+file_unsaid ReadBeside kind = refl
+file_unsaid Written kind = refl
+file_unsaid (Count least most) kind = cc
+file_unsaid (Start least most) kind = cc
+file_unsaid Number kind = cc
+
+pub file_said : (rows : List Row) (id : Text) (stands : Stands) (takes : Takes) (default : Option Text) (name : Option Text)
+    → IsSome (said_of rows (argument id stands takes default)) → is_file takes ≡ true → name ≡ first_of id rows
+    → said_of rows (argument id stands takes default) ≡ Some (File name)
 unfolding said_of
-operand_said rows line text is kind fit =
-    let same : said_of_text line (first_of line.id rows) ≡ said_by line.takes text = ap (said_of_text line) (sym is) in
-    same ∙ file_by line.takes text (both (is_file line.takes) (is_needed line) kind).0 (subst (λ o. IsSome o) same fit)
+file_said rows id stands takes default name fit kind is =
+    go (first_of id rows) fit ∙ ap (λ (n : Option Text). Some (File n)) (sym is)
+  where
+    go : (o : Option Text) → IsSome (said_of_text (argument id stands takes default) o)
+        → said_of_text (argument id stands takes default) o ≡ Some (File o)
+    go (Some text) fit = file_by takes text kind fit
+    go None fit = unneeded (is_needed (argument id stands takes default)) (unsaid takes) fit ∙ file_unsaid takes kind
 
-pub operand_there : (rows : List Row) (line : Line) → None ≡ first_of line.id rows
-    → IsTrue (is_file line.takes && is_needed line) → IsSome (said_of rows line) → ⊥
+-- a number of 64 bits
+mapped : (number : Option ℕ) → IsSome (option_map (λ n. Amount (Some n)) number)
+    → (option_map (λ n. Amount (Some n)) number ≡ Some (Amount number)) × IsSome number
+mapped None fit = cc
+mapped (Some n) fit = (refl, refl)
+
+pub number_said : (rows : List Row) (id : Text) (stands : Stands) (default : Option Text) (number : Option ℕ)
+    → IsSome (said_of rows (argument id stands Number default)) → number ≡ option_and_then written_number (first_of id rows)
+    → said_of rows (argument id stands Number default) ≡ Some (Amount number)
 unfolding said_of
-operand_there rows line none kind fit =
-    let needed = (both (is_file line.takes) (is_needed line) kind).1 in
-    let same : said_of_text line (first_of line.id rows) ≡ None =
-    ap (said_of_text line) (sym none) ∙ ap (λ (b : Bool). if b then None else unsaid line.takes) needed in
-    let some : IsSome {T = Said} None = subst (λ o. IsSome o) same fit in cc
+number_said rows id stands default number fit is =
+    go (first_of id rows) fit ∙ ap (λ (n : Option ℕ). Some (Amount n)) (sym is)
+  where
+    go : (o : Option Text) → IsSome (said_of_text (argument id stands Number default) o)
+        → said_of_text (argument id stands Number default) o ≡ Some (Amount (option_and_then written_number o))
+    go (Some text) fit = (mapped (written_number text) fit).0
+    go None fit = unneeded (is_needed (argument id stands Number default)) (Some (Amount None)) fit
 
--- ---- a number
+pub number_there : (rows : List Row) (id : Text) (stands : Stands) (default : Option Text)
+    → IsSome (said_of rows (argument id stands Number default)) → is_needed (argument id stands Number default) ≡ true
+    → IsSome (option_and_then written_number (first_of id rows))
+unfolding said_of
+number_there rows id stands default fit needed = go (first_of id rows) fit
+  where
+    go : (o : Option Text) → IsSome (said_of_text (argument id stands Number default) o) → IsSome (option_and_then written_number o)
+    go (Some text) fit = (mapped (written_number text) fit).1
+    go None fit = subst (λ (b : Bool). IsSome (if b then None else unsaid Number)) needed fit
 
--- a count that is found is said
-counted_said : (least most : ℕ) (count : Option ℕ) → IsSome (counted least most count) → counted least most count ≡ Some (Amount count)
+-- a number with limits
+counted_said : (least most : ℕ) (count : Option ℕ) → IsSome (counted least most count)
+    → (counted least most count ≡ Some (Amount count)) × IsSome count
 counted_said least most None fit = cc
-counted_said least most (Some n) fit = go (is_within least most n) fit
+counted_said least most (Some n) fit = (go (is_within least most n) fit, refl)
   where
     go : (b : Bool) → IsSome (if b then Some (Amount (Some n)) else None)
         → (if b then Some (Amount (Some n)) else None) ≡ Some (Amount (Some n))
     go true fit = refl
     go false fit = cc
 
-mapped : (number : Option ℕ) → IsSome (option_map (λ n. Amount (Some n)) number)
-    → option_map (λ n. Amount (Some n)) number ≡ Some (Amount number)
-mapped None fit = cc
-mapped (Some n) fit = refl
-
-pub number_said : (rows : List Row) (line : Line) (text : Text) (number : Option ℕ) → line.takes ≡ Number
-    → Some text ≡ first_of line.id rows → number ≡ written_number text → IsSome (said_of rows line)
-    → said_of rows line ≡ Some (Amount number)
+pub count_said : (rows : List Row) (id : Text) (stands : Stands) (least most : ℕ) (default : Option Text) (count : Option ℕ)
+    → IsSome (said_of rows (argument id stands (Count least most) default)) → count ≡ option_and_then count_in (first_of id rows)
+    → said_of rows (argument id stands (Count least most) default) ≡ Some (Amount count)
 unfolding said_of
-number_said rows line text number takes is written fit =
-    let same : said_of_text line (first_of line.id rows) ≡ option_map (λ n. Amount (Some n)) number =
-    ap (said_of_text line) (sym is) ∙ (ap (λ t. said_by t text) takes ∙ ap (option_map (λ n. Amount (Some n))) (sym written)) in
-    same ∙ mapped number (subst (λ o. IsSome o) same fit)
-
-count_by : (takes : Takes) (text : Text) → IsTrue (is_number takes) → (takes ≡ Number → ⊥) → IsSome (said_by takes text)
-    → said_by takes text ≡ Some (Amount (count_in text))
-count_by Nothing text kind other fit = cc
-count_by Ends text kind other fit = cc
-count_by Read text kind other fit = cc
-count_by ReadBeside text kind other fit = cc
-count_by Written text kind other fit = cc
-count_by (Count least most) text kind other fit = counted_said least most (count_in text) fit
-count_by (Start least most) text kind other fit = counted_said least most (count_in text) fit
-count_by Number text kind other fit = absurd (other refl)
-
-pub count_said : (rows : List Row) (line : Line) (text : Text) (number : Option ℕ) → IsTrue (is_number line.takes)
-    → (line.takes ≡ Number → ⊥) → Some text ≡ first_of line.id rows → number ≡ count_in text → IsSome (said_of rows line)
-    → said_of rows line ≡ Some (Amount number)
-unfolding said_of
-count_said rows line text number kind other is counted fit =
-    let same : said_of_text line (first_of line.id rows) ≡ said_by line.takes text = ap (said_of_text line) (sym is) in
-    same ∙ (count_by line.takes text kind other (subst (λ o. IsSome o) same fit) ∙ ap (λ n. Some (Amount n)) (sym counted))
-
-unneeded : (needed : Bool) (o : Option Said) → IsSome (if needed then None else o) → (if needed then None else o) ≡ o
-unneeded true o fit = cc
-unneeded false o fit = refl
-
-pub start_said : (rows : List Row) (line : Line) (least most : ℕ) → line.takes ≡ Start least most → None ≡ first_of line.id rows
-    → IsSome (said_of rows line) → said_of rows line ≡ Some (Amount (Some least))
-unfolding said_of
-start_said rows line least most takes none fit =
-    let same : said_of_text line (first_of line.id rows) ≡ (if is_needed line then None else counted least most (Some least)) =
-    ap (said_of_text line) (sym none) ∙ ap (λ (t : Takes). if is_needed line then None else unsaid t) takes in
-    let bare = same ∙ unneeded (is_needed line) (counted least most (Some least)) (subst (λ o. IsSome o) same fit) in
-    bare ∙ counted_said least most (Some least) (subst (λ o. IsSome o) bare fit)
-
-uncounted : (takes : Takes) → IsTrue (is_number takes) → ((least most : ℕ) → takes ≡ Start least most → ⊥)
-    → unsaid takes ≡ Some (Amount None)
-uncounted Nothing kind other = cc
-uncounted Ends kind other = cc
-uncounted Read kind other = cc
-uncounted ReadBeside kind other = cc
-uncounted Written kind other = cc
-uncounted (Count least most) kind other = refl
-uncounted (Start least most) kind other = absurd (other least most refl)
-uncounted Number kind other = refl
-
-pub none_said : (rows : List Row) (line : Line) → IsTrue (is_number line.takes) → ((least most : ℕ) → line.takes ≡ Start least most → ⊥)
-    → None ≡ first_of line.id rows → IsSome (said_of rows line) → said_of rows line ≡ Some (Amount None)
-unfolding said_of
-none_said rows line kind other none fit =
-    let same : said_of_text line (first_of line.id rows) ≡ (if is_needed line then None else unsaid line.takes) =
-    ap (said_of_text line) (sym none) in
-    same ∙ (unneeded (is_needed line) (unsaid line.takes) (subst (λ o. IsSome o) same fit) ∙ uncounted line.takes kind other)
-
--- ---- a number that must be there, or has a number where it isn't used
-
-counted_some : (least most : ℕ) (count : Option ℕ) → counted least most count ≡ Some (Amount None) → ⊥
-counted_some least most None is = cc
-counted_some least most (Some n) is = go (is_within least most n) is
+count_said rows id stands least most default count fit is =
+    go (first_of id rows) fit ∙ ap (λ (n : Option ℕ). Some (Amount n)) (sym is)
   where
-    go : (b : Bool) → (if b then Some (Amount (Some n)) else None) ≡ Some (Amount None) → ⊥
-    go true is = cc
-    go false is = cc
+    go : (o : Option Text) → IsSome (said_of_text (argument id stands (Count least most) default) o)
+        → said_of_text (argument id stands (Count least most) default) o ≡ Some (Amount (option_and_then count_in o))
+    go (Some text) fit = (counted_said least most (count_in text) fit).0
+    go None fit = unneeded (is_needed (argument id stands (Count least most) default)) (Some (Amount None)) fit
 
-mapped_some : (number : Option ℕ) → option_map (λ n. Amount (Some n)) number ≡ Some (Amount None) → ⊥
-mapped_some None is = cc
-mapped_some (Some n) is = cc
-
-amount_by : (takes : Takes) (text : Text) → IsTrue (is_number takes) → said_by takes text ≡ Some (Amount None) → ⊥
-amount_by Nothing text kind is = cc
-amount_by Ends text kind is = cc
-amount_by Read text kind is = cc
-amount_by ReadBeside text kind is = cc
-amount_by Written text kind is = cc
-amount_by (Count least most) text kind is = counted_some least most (count_in text) is
-amount_by (Start least most) text kind is = counted_some least most (count_in text) is
-amount_by Number text kind is = mapped_some (written_number text) is
-
-amount_unsaid : (needed : Bool) (takes : Takes) → IsTrue (needed || is_start takes)
-    → (if needed then None else unsaid takes) ≡ Some (Amount None) → ⊥
-amount_unsaid true takes kind is = cc
-amount_unsaid false Nothing kind is = cc
-amount_unsaid false Ends kind is = cc
-amount_unsaid false Read kind is = cc
-amount_unsaid false ReadBeside kind is = cc
-amount_unsaid false Written kind is = cc
-amount_unsaid false (Count least most) kind is = cc
-amount_unsaid false (Start least most) kind is = counted_some least most (Some least) is
-amount_unsaid false Number kind is = cc
-
-pub amount_there : (rows : List Row) (line : Line) → IsTrue (is_number line.takes && (is_needed line || is_start line.takes))
-    → said_of rows line ≡ Some (Amount None) → ⊥
+pub count_there : (rows : List Row) (id : Text) (stands : Stands) (least most : ℕ) (default : Option Text)
+    → IsSome (said_of rows (argument id stands (Count least most) default))
+    → is_needed (argument id stands (Count least most) default) ≡ true
+    → IsSome (option_and_then count_in (first_of id rows))
 unfolding said_of
-amount_there rows line kind is = go (first_of line.id rows) is
+count_there rows id stands least most default fit needed = go (first_of id rows) fit
   where
-    parts : IsTrue (is_number line.takes) × IsTrue (is_needed line || is_start line.takes)
-    parts = both (is_number line.takes) (is_needed line || is_start line.takes) kind
+    go : (o : Option Text) → IsSome (said_of_text (argument id stands (Count least most) default) o)
+        → IsSome (option_and_then count_in o)
+    go (Some text) fit = (counted_said least most (count_in text) fit).1
+    go None fit = subst (λ (b : Bool). IsSome (if b then None else unsaid (Count least most))) needed fit
 
-    go : (o : Option Text) → said_of_text line o ≡ Some (Amount None) → ⊥
-    go (Some text) is = amount_by line.takes text parts.0 is
-    go None is = amount_unsaid (is_needed line) line.takes parts.1 is
+-- the same, and the least where it isn't used
+start_by : (line : Line) (least most : ℕ) (o : Option Text) → line.takes ≡ Start least most → IsSome (said_of_text line o)
+    → said_of_text line o ≡ Some (Amount (Some (unwrap_or (option_and_then count_in o) least)))
+start_by line least most (Some text) takes fit =
+    let same : said_by line.takes text ≡ counted least most (count_in text) = ap (λ (t : Takes). said_by t text) takes in
+    let found = counted_said least most (count_in text) (subst (λ o. IsSome o) same fit) in
+    same ∙ (found.0 ∙ ap (λ (n : Option ℕ). Some (Amount n)) (itself (count_in text) found.1))
+  where
+    itself : (n : Option ℕ) → IsSome n → n ≡ Some (unwrap_or n least)
+    itself None some = cc
+    itself (Some n) some = refl
+start_by line least most None takes fit =
+    let bare = unneeded (is_needed line) (unsaid line.takes) fit in
+    let same : unsaid line.takes ≡ counted least most (Some least) = ap unsaid takes in
+    bare ∙ (same ∙ (counted_said least most (Some least) (subst (λ o. IsSome o) (bare ∙ same) fit)).0)
+
+pub start_said : (rows : List Row) (line : Line) (least most number : ℕ) → line.takes ≡ Start least most
+    → IsSome (said_of rows line) → number ≡ unwrap_or (option_and_then count_in (first_of line.id rows)) least
+    → said_of rows line ≡ Some (Amount (Some number))
+unfolding said_of
+start_said rows line least most number takes fit is =
+    start_by line least most (first_of line.id rows) takes fit ∙ ap (λ (n : ℕ). Some (Amount (Some n))) (sym is)
+
+-- a flag, and which ends are explained
+pub flag_said : (rows : List Row) (id : Text) (stands : Stands) (default : Option Text) (used : Bool)
+    → IsSome (said_of rows (argument id stands Nothing default)) → used ≡ is_true (first_of id rows)
+    → said_of rows (argument id stands Nothing default) ≡ Some (Used used)
+unfolding said_of
+flag_said rows id stands default used fit is = go (first_of id rows) fit ∙ ap (λ (b : Bool). Some (Used b)) (sym is)
+  where
+    go : (o : Option Text) → IsSome (said_of_text (argument id stands Nothing default) o)
+        → said_of_text (argument id stands Nothing default) o ≡ Some (Used (is_true o))
+    go (Some text) fit = refl
+    go None fit = unneeded (is_needed (argument id stands Nothing default)) (Some (Used false)) fit
+
+pub ends_said : (rows : List Row) (id : Text) (stands : Stands) (default : Option Text) (why : Option Why)
+    → IsSome (said_of rows (argument id stands Ends default)) → why ≡ option_and_then why_of (first_of id rows)
+    → said_of rows (argument id stands Ends default) ≡ Some (Explained why)
+unfolding said_of
+ends_said rows id stands default why fit is = go (first_of id rows) fit ∙ ap (λ (w : Option Why). Some (Explained w)) (sym is)
+  where
+    go : (o : Option Text) → IsSome (said_of_text (argument id stands Ends default) o)
+        → said_of_text (argument id stands Ends default) o ≡ Some (Explained (option_and_then why_of o))
+    go (Some text) fit = refl
+    go None fit = unneeded (is_needed (argument id stands Ends default)) (Some (Explained None)) fit
 
 -- ---- the lines of the table, one after the other
 

@@ -200,12 +200,6 @@ must_stand Operand = true
 must_stand Required = true
 must_stand _ = false
 
-abbrev pub is_number : Takes → Bool
-is_number (Count least most) = true
-is_number (Start least most) = true
-is_number Number = true
-is_number _ = false
-
 abbrev pub is_start : Takes → Bool
 is_start (Start least most) = true
 is_start _ = false

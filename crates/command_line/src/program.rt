@@ -5,9 +5,9 @@ ghost use Rattle.clap.specs.Words.{app_of, rule_of, with_rule, with_subcommand};
 ghost use Rattle.clap.specs.declared.builder.command.Command.TheViews.{out-Command};
 ghost use Rattle.command_line.specs.declared.table.Stands.TheVariants.{Flag, Named};
 ghost use Rattle.command_line.specs.CommandLine.{as_stands, by_default, line_of, entry_of};
-ghost use Rattle.command_line.specs.CommandLine.{rule, with_arguments, command, with_commands, program};
+ghost use Rattle.command_line.specs.CommandLine.{rule, with_arguments, command, commands, with_commands, program};
 
-use crate::table::{Argument, COMMANDS, CommandRow, Stands};
+use crate::table::{Argument, CommandRow, Stands};
 use clap::{Arg, ArgAction, Command};
 use std::alloc::{AllocError, Global};
 
@@ -169,8 +169,7 @@ fn with_row<'a>(
     ensures { IfOk result (λ c. app_of c ≡ with_subcommand (app_of program.entry) (command all (entry_of row.now)).top) }
 {
     let made = command(alloc, all, row)?;
-    let program = with_command(program, made)?;
-    Ok(program)
+    with_command(program, made)
 }
 
 /// Adds the commands of these lines to the program.
@@ -192,13 +191,19 @@ fn with_commands<'a>(
     }
 }
 
-/// The command line of the program; `all` says that the words have `--why=all` or `--why=double`.
-#[tactic(auto, unfolding(crate::specs::CommandLine::program, crate::specs::CommandLine::commands))]
-pub(crate) fn program<'a>(alloc: Global, all: bool) -> Result<Command<'a>, AllocError>
+/// The command line of the program, of these commands, which are those of the table; `all` says that the words have `--why=all` or
+/// `--why=double`.
+#[tactic(auto, unfolding(crate::specs::CommandLine::program))]
+pub(crate) fn program<'a>(
+    alloc: Global,
+    all: bool,
+    rows: &[CommandRow],
+) -> Result<Command<'a>, AllocError>
+    requires { map entry_of rows.now ≡ commands }
     ensures { IfOk result (λ c. app_of c ≡ program all) }
 {
     let program = Command::new(alloc, "cherisim")
         .about("A CHERI-RISC-V machine")
         .after_help(EXAMPLE);
-    with_commands(alloc, all, program, &COMMANDS)
+    with_commands(alloc, all, program, rows)
 }

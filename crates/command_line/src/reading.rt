@@ -1,7 +1,7 @@
 //! The plan that a command line asks for.
 
 ghost use Rattle.std.specs.Prelude.{◌≡◌, List, [], IsTrue, bytes_eq, Option, IfOk, IfErr, OnOk, Some, map, option_map, codes, None};
-ghost use Rattle.std.specs.Prelude.{if◌then◌else◌};
+ghost use Rattle.std.specs.Prelude.{if◌then◌else◌, ◌∷◌};
 ghost use Rattle.std.specs.List.{list_all};
 ghost use Rattle.clap.specs.Words.{first_of, found_of, rows_of, kind_of, subcommand_rows_of};
 ghost use Rattle.clap.specs.declared.error.kind.ErrorKind.{ErrorKind};
@@ -9,7 +9,7 @@ ghost use Rattle.command_line.specs.CommandLine.{found_in, IsSound, IsTaken, IsP
 ghost use Rattle.command_line.specs.CommandLine.{asks_why, names_ends};
 ghost use Rattle.command_line.specs.CommandLine.{Said, AreFit, AreSaid, HasAll, Says, lines_named, commands, files_found, NothingStands};
 ghost use Rattle.command_line.specs.CommandLine.{are_apart, are_two, have_one_name, is_file, is_input, is_written, run_lines};
-ghost use Rattle.command_line.specs.CommandLine.{said_of_lines};
+ghost use Rattle.command_line.specs.CommandLine.{Amount, Used, name_of, said, said_of_lines};
 ghost use Rattle.command_line.specs.declared.fault.PlanFault.TheVariants.{Memory};
 
 use crate::fault::PlanFault;
@@ -18,9 +18,11 @@ use crate::misfit::{MISSING, Misfit, misfit_text};
 use crate::plans::{Plan, ProveRequest, RunRequest};
 use crate::program::{alone, program};
 use crate::table::*;
-use crate::values::{amount, ends, file, flag, is_fit, is_used, number, operand, text, why_of};
+use crate::values::{
+    count, ends, flag, is_fit, is_used, its_count, its_number, number, operand, start, text,
+};
 use clap::error::ErrorKind;
-use clap::{ArgMatches, Error};
+use clap::{ArgMatches, Command, Error};
 use std::alloc::{AllocError, Global};
 
 /// A file would be written over another of the command.
@@ -85,7 +87,7 @@ fn all_fit<'a>(found: &ArgMatches<'a>, lines: &[Argument]) -> Result<(), Misfit<
 fn asks_why(found: &ArgMatches<'_>) -> bool
     ensures { result ≡ asks_why (rows_of (found_of found.now)) }
 {
-    text(found, "why").and_then(why_of).is_some()
+    ends(found, "why").is_some()
 }
 
 /// Whether the arguments that are used go together.
@@ -214,11 +216,11 @@ fn asm_plan<'a>(found: &ArgMatches<'a>) -> Plan<'a>
     ensures { Says (codes "asm") (rows_of (found_of found.now)) result }
 {
     Plan::Asm {
-        input: operand(found, &IN),
-        output: operand(found, &OUT),
-        symbols: file(found, &ASM_LABELS),
-        lines: file(found, &ASM_LINES),
-        quiet: flag(found, &ALONE),
+        input: operand(found, "IN"),
+        output: operand(found, "OUT"),
+        symbols: text(found, "symbols"),
+        lines: text(found, "lines"),
+        quiet: flag(found, "quiet"),
     }
 }
 
@@ -228,16 +230,16 @@ fn image_plan<'a>(found: &ArgMatches<'a>) -> Plan<'a>
     ensures { Says (codes "image") (rows_of (found_of found.now)) result }
 {
     Plan::Image {
-        flat: operand(found, &FLAT),
-        output: operand(found, &OUT),
+        flat: operand(found, "FLAT"),
+        output: operand(found, "OUT"),
         layout: Layout {
-            at: number(found, &AT),
-            entry: number(found, &ENTRY),
-            pages: number(found, &PAGES),
-            mode: number(found, &MODE),
-            flat_elf: flag(found, &FLAT_ELF),
+            at: number(found, "at"),
+            entry: number(found, "entry"),
+            pages: number(found, "pages"),
+            mode: number(found, "mode"),
+            flat_elf: flag(found, "flat-elf"),
         },
-        quiet: flag(found, &ALONE),
+        quiet: flag(found, "quiet"),
     }
 }
 
@@ -259,17 +261,17 @@ fn run_request<'a>(
         image,
         steps,
         times,
-        gap: amount(found, &RUN_GAP),
-        tick: amount(found, &RUN_TICK),
-        input: file(found, &INPUT),
-        quiet: flag(found, &STATUS),
+        gap: its_count(found, "gap"),
+        tick: its_count(found, "tick"),
+        input: text(found, "input"),
+        quiet: flag(found, "quiet"),
         json,
-        trace: file(found, &TRACE),
-        trace_from: amount(found, &TRACE_FROM),
-        trace_last: number(found, &TRACE_LAST),
-        policy: file(found, &POLICY),
-        symbols: file(found, &RUN_LABELS),
-        lines: file(found, &RUN_LINES),
+        trace: text(found, "trace"),
+        trace_from: start(found, &TRACE_FROM),
+        trace_last: count(found, "trace-last"),
+        policy: text(found, "policy"),
+        symbols: text(found, "symbols"),
+        lines: text(found, "lines"),
     }
 }
 
@@ -281,13 +283,13 @@ fn go_plan<'a>(found: &ArgMatches<'a>) -> Plan<'a>
     Plan::Go {
         request: run_request(
             found,
-            operand(found, &FILE),
-            amount(found, &GO_STEPS),
-            amount(found, &GO_TIMES),
-            flag(found, &RUN_JSON),
+            operand(found, "FILE"),
+            its_count(found, "steps"),
+            its_count(found, "times"),
+            flag(found, "json"),
         ),
-        why: ends(found, &WHY),
-        profile: file(found, &PROFILE),
+        why: ends(found, "why"),
+        profile: text(found, "profile"),
     }
 }
 
@@ -299,13 +301,13 @@ fn run_plan<'a>(found: &ArgMatches<'a>) -> Plan<'a>
     Plan::Run {
         request: run_request(
             found,
-            operand(found, &IMAGE),
-            amount(found, &STEPS),
-            amount(found, &TIMES),
-            flag(found, &RUN_JSON),
+            operand(found, "IMAGE"),
+            its_count(found, "STEPS"),
+            its_count(found, "times"),
+            flag(found, "json"),
         ),
-        why: ends(found, &WHY),
-        profile: file(found, &PROFILE),
+        why: ends(found, "why"),
+        profile: text(found, "profile"),
     }
 }
 
@@ -314,12 +316,13 @@ fn audit_plan<'a>(found: &ArgMatches<'a>) -> Plan<'a>
     requires { HasAll (codes "audit") (rows_of (found_of found.now)) }
     ensures { Says (codes "audit") (rows_of (found_of found.now)) result }
 {
+    let json = flag(found, "json");
     Plan::Audit(run_request(
         found,
-        operand(found, &IMAGE),
-        amount(found, &STEPS),
-        amount(found, &TIMES),
-        flag(found, &AUDIT_JSON),
+        operand(found, "IMAGE"),
+        its_count(found, "STEPS"),
+        its_count(found, "times"),
+        json,
     ))
 }
 
@@ -329,12 +332,12 @@ fn prove_plan<'a>(found: &ArgMatches<'a>) -> Plan<'a>
     ensures { Says (codes "prove") (rows_of (found_of found.now)) result }
 {
     Plan::Prove(ProveRequest {
-        image: operand(found, &IMAGE),
-        policy: operand(found, &PROVE_POLICY),
-        symbols: file(found, &RUN_LABELS),
-        lines: file(found, &RUN_LINES),
-        steps: amount(found, &PROVE_STEPS),
-        quiet: flag(found, &STATUS),
+        image: operand(found, "IMAGE"),
+        policy: operand(found, "policy"),
+        symbols: text(found, "symbols"),
+        lines: text(found, "lines"),
+        steps: its_count(found, "steps"),
+        quiet: flag(found, "quiet"),
     })
 }
 
@@ -344,10 +347,10 @@ fn dis_plan<'a>(found: &ArgMatches<'a>) -> Plan<'a>
     ensures { Says (codes "dis") (rows_of (found_of found.now)) result }
 {
     Plan::Dis {
-        image: operand(found, &IMAGE),
-        symbols: file(found, &DIS_LABELS),
-        header: flag(found, &HEADER),
-        quiet: flag(found, &ALONE),
+        image: operand(found, "IMAGE"),
+        symbols: text(found, "symbols"),
+        header: flag(found, "header"),
+        quiet: flag(found, "quiet"),
     }
 }
 
@@ -357,13 +360,30 @@ fn debug_plan<'a>(found: &ArgMatches<'a>) -> Plan<'a>
     ensures { Says (codes "debug") (rows_of (found_of found.now)) result }
 {
     Plan::Debug {
-        image: operand(found, &DEBUG_IMAGE),
-        symbols: file(found, &DEBUG_LABELS),
-        lines: file(found, &DEBUG_LINES),
-        input: file(found, &DEBUG_INPUT),
-        gap: number(found, &GAP),
-        tick: number(found, &TICK),
-        quiet: flag(found, &ALONE),
+        image: operand(found, "IMAGE"),
+        symbols: text(found, "symbols"),
+        lines: text(found, "lines"),
+        input: text(found, "input"),
+        gap: count(found, "gap"),
+        tick: count(found, "tick"),
+        quiet: flag(found, "quiet"),
+    }
+}
+
+/// The plan of these numbers: the second is the length, or the first where there is no second.
+fn bounds_of<'a>(first: u64, second: Option<u64>, address: Option<u64>, json: bool) -> Plan<'a>
+    ensures name { name_of result ≡ codes "bounds" }
+    ensures said { said result ≡ Amount (Some first) ∷ Amount second ∷ Amount address ∷ Used json ∷ [] }
+{
+    let (base, length) = match second {
+        Some(length) => (Some(first), length),
+        None => (None, first),
+    };
+    Plan::Bounds {
+        base,
+        length,
+        address,
+        json,
     }
 }
 
@@ -372,17 +392,12 @@ fn bounds_plan<'a>(found: &ArgMatches<'a>) -> Plan<'a>
     requires { HasAll (codes "bounds") (rows_of (found_of found.now)) }
     ensures { Says (codes "bounds") (rows_of (found_of found.now)) result }
 {
-    let first = amount(found, &BOUNDS_BASE);
-    let (base, length) = match number(found, &LENGTH) {
-        Some(length) => (Some(first), length),
-        None => (None, first),
-    };
-    Plan::Bounds {
-        base,
-        length,
-        address: number(found, &ADDRESS),
-        json: flag(found, &JSON),
-    }
+    bounds_of(
+        its_number(found, "BASE"),
+        number(found, "LENGTH"),
+        number(found, "address"),
+        flag(found, "json"),
+    )
 }
 
 #[tactic(auto, unfolding(crate::specs::CommandLine::commands))]
@@ -391,10 +406,10 @@ fn word_plan<'a>(found: &ArgMatches<'a>) -> Plan<'a>
     ensures { Says (codes "word") (rows_of (found_of found.now)) result }
 {
     Plan::Word {
-        high: amount(found, &HIGH),
-        low: amount(found, &LOW),
-        memory: flag(found, &MEMORY),
-        json: flag(found, &JSON),
+        high: its_number(found, "HIGH"),
+        low: its_number(found, "LOW"),
+        memory: flag(found, "memory"),
+        json: flag(found, "json"),
     }
 }
 
@@ -435,13 +450,6 @@ fn lines_named(name: &str, rows: &[CommandRow]) -> Option<&'static [Argument]>
     }
 }
 
-#[tactic(auto, unfolding(crate::specs::CommandLine::commands))]
-fn lines_of(name: &str) -> Option<&'static [Argument]>
-    ensures { option_map (λ lines. map line_of lines.now) result ≡ lines_named name.now commands }
-{
-    lines_named(name, &COMMANDS)
-}
-
 /// What was found of the command of this name, whose arguments these are.
 fn plan_of_lines<'a>(
     name: &str,
@@ -457,35 +465,51 @@ fn plan_of_lines<'a>(
     Ok(read(name, found))
 }
 
-fn plan_of_command<'a>(name: &str, found: &ArgMatches<'a>) -> Result<Plan<'a>, Misfit<'a>>
+fn plan_of_command<'a>(
+    name: &str,
+    found: &ArgMatches<'a>,
+    rows: &[CommandRow],
+) -> Result<Plan<'a>, Misfit<'a>>
+    requires { map entry_of rows.now ≡ commands }
     ensures value { IfOk result (IsPlanOf (Some (name.now, (rows_of (found_of found.now))))) }
     ensures sound { IfOk result IsSound }
     ensures none { IfErr result (λ _. NoPlanFits (Some (name.now, (rows_of (found_of found.now))))) }
 {
-    match lines_of(name) {
+    match lines_named(name, rows) {
         None => Err(Misfit::Told(MISSING)),
         Some(lines) => plan_of_lines(name, found, lines),
     }
 }
 
-fn plan_of<'a>(matches: &ArgMatches<'a>) -> Result<Plan<'a>, Misfit<'a>>
+fn plan_of<'a>(matches: &ArgMatches<'a>, rows: &[CommandRow]) -> Result<Plan<'a>, Misfit<'a>>
+    requires { map entry_of rows.now ≡ commands }
     ensures value { IfOk result (IsPlanOf (subcommand_rows_of matches.now)) }
     ensures sound { IfOk result IsSound }
     ensures none { IfErr result (λ _. NoPlanFits (subcommand_rows_of matches.now)) }
 {
     match matches.subcommand() {
         None => Ok(Plan::First),
-        Some((name, found)) => plan_of_command(name, found),
+        Some((name, found)) => plan_of_command(name, found, rows),
     }
 }
 
-/// The text of a refusal, with the usage of the command of this name.
-fn refusal(alloc: Global, name: &str, told: &str) -> Result<String, AllocError> {
-    let lines = lines_of(name).unwrap_or(&[]);
-    let name = format!(in alloc; "cherisim {name}")?;
-    let mut command = alone(alloc, &name, lines)?;
+/// The text of a refusal, with the usage of a command.
+fn error_text(alloc: Global, command: &mut Command<'_>, told: &str) -> Result<String, AllocError> {
     let error = command.error(ErrorKind::InvalidValue, told)?;
     format!(in alloc; "{error}")
+}
+
+/// The text of a refusal, with the usage of the command of this name.
+fn refusal(
+    alloc: Global,
+    name: &str,
+    told: &str,
+    rows: &[CommandRow],
+) -> Result<String, AllocError> {
+    let lines = lines_named(name, rows).unwrap_or(&[]);
+    let name = format!(in alloc; "cherisim {name}")?;
+    let mut command = alone(alloc, &name, lines)?;
+    error_text(alloc, &mut command, told)
 }
 
 /// What is told of words that clap takes, and that are no plan.
@@ -493,17 +517,23 @@ fn misfit_refusal(
     alloc: Global,
     matches: &ArgMatches<'_>,
     misfit: Misfit<'_>,
+    rows: &[CommandRow],
 ) -> Result<String, AllocError> {
     let told = misfit_text(alloc, misfit)?;
     match matches.subcommand() {
-        Some((name, _)) => refusal(alloc, name, &told),
+        Some((name, _)) => refusal(alloc, name, &told, rows),
         None => Ok(told),
     }
 }
 
 /// What clap tells of the words, with the usage of the command that they name where clap shows none.
-fn clap_refusal(alloc: Global, words: &[&str], text: String) -> Result<String, AllocError> {
-    if text.contains("\n\nUsage: ") || words.len() < 2 || lines_of(words[1]).is_none() {
+fn clap_refusal(
+    alloc: Global,
+    words: &[&str],
+    text: String,
+    rows: &[CommandRow],
+) -> Result<String, AllocError> {
+    if text.contains("\n\nUsage: ") || words.len() < 2 || lines_named(words[1], rows).is_none() {
         return Ok(text);
     }
     let line = text.split('\n').next().unwrap_or("");
@@ -511,6 +541,7 @@ fn clap_refusal(alloc: Global, words: &[&str], text: String) -> Result<String, A
         alloc,
         words[1],
         line.strip_prefix("error: ").unwrap_or(line),
+        rows,
     )
 }
 
@@ -523,7 +554,7 @@ fn refused(text: Result<String, AllocError>) -> PlanFault {
 }
 
 /// The fault for an error of clap's, with its text.
-fn fault_of(alloc: Global, words: &[&str], error: Error) -> PlanFault
+fn fault_of(alloc: Global, words: &[&str], error: Error, rows: &[CommandRow]) -> PlanFault
     ensures { kind_of error ≡ ErrorKind.OutOfMemory → result ≡ Memory }
 {
     let kind = error.kind();
@@ -532,7 +563,7 @@ fn fault_of(alloc: Global, words: &[&str], error: Error) -> PlanFault
     }
     match format!(in alloc; "{error}") {
         Ok(text) if kind == ErrorKind::DisplayHelp => PlanFault::Help(text),
-        Ok(text) => refused(clap_refusal(alloc, words, text)),
+        Ok(text) => refused(clap_refusal(alloc, words, text, rows)),
         Err(_) => PlanFault::Memory,
     }
 }
@@ -566,12 +597,52 @@ fn asks_all(words: &[&str]) -> bool
     false
 }
 
+/// The plan of what clap found.
+fn planned<'a>(
+    alloc: Global,
+    matches: ArgMatches<'a>,
+    rows: &[CommandRow],
+) -> Result<Plan<'a>, PlanFault>
+    requires { map entry_of rows.now ≡ commands }
+    ensures value { IfOk result (IsPlanOf (subcommand_rows_of matches.entry)) }
+    ensures sound { IfOk result IsSound }
+    ensures none { IfErr result (λ _. NoPlanFits (subcommand_rows_of matches.entry)) }
+{
+    match plan_of(&matches, rows) {
+        Ok(plan) => Ok(plan),
+        Err(misfit) => Err(refused(misfit_refusal(alloc, &matches, misfit, rows))),
+    }
+}
+
+/// Reads the words by these commands, which are those of the table. They are handed on, since whatever names the table has to build it
+/// whole in its proof.
+fn plan_by<'a>(
+    alloc: Global,
+    words: &'a [&'a str],
+    rows: &[CommandRow],
+) -> Result<Plan<'a>, PlanFault>
+    requires { map entry_of rows.now ≡ commands }
+    ensures taken { OnOk result (IsTaken (map (λ word. word.now) words.entry.now)) }
+    ensures ok { IfOk result (IsPlanOf (found_in (map (λ word. word.now) words.entry.now))) }
+    ensures sound { IfOk result IsSound }
+    ensures err { IfErr result (λ fault. IsTaken (map (λ word. word.now) words.entry.now)
+        → (NoPlanFits (found_in (map (λ word. word.now) words.entry.now)) → ⊥)
+        → fault ≡ Memory) }
+{
+    let mut command = program(alloc, asks_all(words), rows)?;
+    match command.try_get_matches_from_mut(words) {
+        Ok(matches) => planned(alloc, matches, rows),
+        Err(error) => Err(fault_of(alloc, words, error, rows)),
+    }
+}
+
 /// Reads the words of a command line, the program's name first.
 ///
 /// A file that is written may not bear the name of another file of the command; `--trace-from` and `--trace-last` go with `--trace`,
 /// and `--policy` does not go with `--why`; with one number `bounds` has a length and no address. `-` is standard input, which is read for
 /// one file at most, and for none of `debug`. A number is typed in decimal digits, or in hexadecimal digits after `0x`, and `_` may stand
 /// between two digits. `Help` and `Refused` hold the text for whoever typed the words; `Memory` says that there was none.
+#[tactic(auto, unfolding(crate::specs::CommandLine::commands))]
 pub fn plan<'a>(alloc: Global, words: &'a [&'a str]) -> Result<Plan<'a>, PlanFault>
     ensures taken { OnOk result (IsTaken (map (λ word. word.now) words.entry.now)) }
     ensures ok { IfOk result (IsPlanOf (found_in (map (λ word. word.now) words.entry.now))) }
@@ -581,13 +652,5 @@ pub fn plan<'a>(alloc: Global, words: &'a [&'a str]) -> Result<Plan<'a>, PlanFau
         → (NoPlanFits (found_in (map (λ word. word.now) words.entry.now)) → ⊥)
         → fault ≡ Memory) }
 {
-    let mut command = program(alloc, asks_all(words))?;
-    let matches = match command.try_get_matches_from_mut(words) {
-        Ok(matches) => matches,
-        Err(error) => return Err(fault_of(alloc, words, error)),
-    };
-    match plan_of(&matches) {
-        Ok(plan) => Ok(plan),
-        Err(misfit) => Err(refused(misfit_refusal(alloc, &matches, misfit))),
-    }
+    plan_by(alloc, words, &COMMANDS)
 }

@@ -1,11 +1,10 @@
 //! What is read of the values that clap found.
 
-ghost use Rattle.std.specs.Prelude.{◌≡◌, ◌&&◌, ◌||◌, IsSome, IsTrue, Some, None, not, is_some, option_map};
+ghost use Rattle.std.specs.Prelude.{◌≡◌, IsSome, IsTrue, Some, None, is_some, option_and_then, option_map};
 ghost use Rattle.clap.specs.Words.{found_of, rows_of, first_of};
-ghost use Rattle.command_line.specs.CommandLine.{File, Amount, Used, Explained, said_of};
-ghost use Rattle.command_line.specs.CommandLine.{is_needed, is_file, is_true, line_of, why_of, is_used};
-ghost use Rattle.command_line.specs.CommandLine.{is_number, is_start};
-ghost use Rattle.command_line.specs.declared.table.Takes.TheVariants.{Nothing, Ends};
+ghost use Rattle.command_line.specs.CommandLine.{Amount, said_of};
+ghost use Rattle.command_line.specs.CommandLine.{is_needed, is_start, is_true, line_of, why_of, is_used};
+ghost use Rattle.command_line.specs.CommandLine.{count_in, written_number};
 
 use crate::numbers::{count_in, written_number};
 use crate::plans::Why;
@@ -27,7 +26,7 @@ pub(crate) fn is_used(found: &ArgMatches<'_>, id: &str) -> bool
 }
 
 /// Whether the flag of this id is used.
-fn is_true(found: &ArgMatches<'_>, id: &str) -> bool
+pub(crate) fn flag(found: &ArgMatches<'_>, id: &str) -> bool
     ensures { result ≡ is_true (first_of id.now (rows_of (found_of found.now))) }
 {
     match text(found, id) {
@@ -37,7 +36,7 @@ fn is_true(found: &ArgMatches<'_>, id: &str) -> bool
 }
 
 /// Which ends of a run a text asks for.
-pub(crate) fn why_of(text: &str) -> Option<Why>
+fn why_of(text: &str) -> Option<Why>
     ensures { result ≡ why_of text.now }
 {
     match text {
@@ -87,79 +86,76 @@ pub(crate) fn is_fit(found: &ArgMatches<'_>, line: &Line<'_>) -> bool
     }
 }
 
-/// The file that an argument names which is there.
-#[tactic(auto, unfolding(crate::specs::CommandLine::said_of))]
-pub(crate) fn operand<'a>(found: &ArgMatches<'a>, line: &Line<'_>) -> &'a str
-    requires fit { IsSome (said_of (rows_of (found_of found.now)) (line_of line.now)) }
-    requires kind { IsTrue (is_file line.now.2 && is_needed (line_of line.now)) }
-    ensures { said_of (rows_of (found_of found.now)) (line_of line.now) ≡ Some (File (Some result.now)) }
+/// The text that was found for `id`, of which one was.
+pub(crate) fn operand<'a>(found: &ArgMatches<'a>, id: &str) -> &'a str
+    requires { IsSome (first_of id.now (rows_of (found_of found.now))) }
+    ensures { Some result.now ≡ first_of id.now (rows_of (found_of found.now)) }
 {
-    match text(found, line.0) {
+    match text(found, id) {
         Some(text) => text,
         None => unreachable!(),
     }
 }
 
-/// The file that an argument names, if it is used.
-#[tactic(auto, unfolding(crate::specs::CommandLine::said_of))]
-pub(crate) fn file<'a>(found: &ArgMatches<'a>, line: &Line<'_>) -> Option<&'a str>
-    requires fit { IsSome (said_of (rows_of (found_of found.now)) (line_of line.now)) }
-    requires kind { IsTrue (is_file line.now.2 && not (is_needed (line_of line.now))) }
-    ensures { said_of (rows_of (found_of found.now)) (line_of line.now) ≡ Some (File (option_map (λ s. s.now) result)) }
+/// The number that the text of an argument says, if it says one.
+pub(crate) fn number(found: &ArgMatches<'_>, id: &str) -> Option<u64>
+    ensures { result ≡ option_and_then written_number (first_of id.now (rows_of (found_of found.now))) }
 {
-    text(found, line.0)
-}
-
-/// The number that an argument says, if it says one.
-#[tactic(auto, unfolding(crate::specs::CommandLine::said_of))]
-pub(crate) fn number(found: &ArgMatches<'_>, line: &Line<'_>) -> Option<u64>
-    requires fit { IsSome (said_of (rows_of (found_of found.now)) (line_of line.now)) }
-    requires kind { IsTrue (is_number line.now.2) }
-    ensures { said_of (rows_of (found_of found.now)) (line_of line.now) ≡ Some (Amount result) }
-{
-    match text(found, line.0) {
-        Some(text) => match line.2 {
-            Takes::Number => written_number(text),
-            _ => count_in(text),
-        },
-        None => match line.2 {
-            Takes::Start(least, _) => Some(least),
-            _ => None,
-        },
+    match text(found, id) {
+        Some(text) => written_number(text),
+        None => None,
     }
 }
 
-/// The number that an argument says which is there, or which has a number where it isn't used.
-#[tactic(auto, unfolding(crate::specs::CommandLine::said_of))]
-pub(crate) fn amount(found: &ArgMatches<'_>, line: &Line<'_>) -> u64
-    requires fit { IsSome (said_of (rows_of (found_of found.now)) (line_of line.now)) }
-    requires kind { IsTrue (is_number line.now.2 && (is_needed (line_of line.now) || is_start line.now.2)) }
-    ensures { said_of (rows_of (found_of found.now)) (line_of line.now) ≡ Some (Amount (Some result)) }
+/// The same of an argument with limits.
+pub(crate) fn count(found: &ArgMatches<'_>, id: &str) -> Option<u64>
+    ensures { result ≡ option_and_then count_in (first_of id.now (rows_of (found_of found.now))) }
 {
-    match number(found, line) {
+    match text(found, id) {
+        Some(text) => count_in(text),
+        None => None,
+    }
+}
+
+/// The number of an argument that has one.
+pub(crate) fn its_number(found: &ArgMatches<'_>, id: &str) -> u64
+    requires { IsSome (option_and_then written_number (first_of id.now (rows_of (found_of found.now)))) }
+    ensures { Some result ≡ option_and_then written_number (first_of id.now (rows_of (found_of found.now))) }
+{
+    match number(found, id) {
         Some(number) => number,
         None => unreachable!(),
     }
 }
 
-/// Whether a flag is used.
-#[tactic(auto, unfolding(crate::specs::CommandLine::said_of))]
-pub(crate) fn flag(found: &ArgMatches<'_>, line: &Line<'_>) -> bool
-    requires fit { IsSome (said_of (rows_of (found_of found.now)) (line_of line.now)) }
-    requires kind { line.now.2 ≡ Nothing }
-    ensures { said_of (rows_of (found_of found.now)) (line_of line.now) ≡ Some (Used result) }
+/// The same of an argument with limits.
+pub(crate) fn its_count(found: &ArgMatches<'_>, id: &str) -> u64
+    requires { IsSome (option_and_then count_in (first_of id.now (rows_of (found_of found.now)))) }
+    ensures { Some result ≡ option_and_then count_in (first_of id.now (rows_of (found_of found.now))) }
 {
-    is_true(found, line.0)
+    match count(found, id) {
+        Some(count) => count,
+        None => unreachable!(),
+    }
+}
+
+/// The number of an argument that has one where it isn't used too.
+pub(crate) fn start(found: &ArgMatches<'_>, line: &Line<'_>) -> u64
+    requires fit { IsSome (said_of (rows_of (found_of found.now)) (line_of line.now)) }
+    requires kind { IsTrue (is_start line.now.2) }
+    ensures { said_of (rows_of (found_of found.now)) (line_of line.now) ≡ Some (Amount (Some result)) }
+{
+    match line.2 {
+        Takes::Start(least, _) => count(found, line.0).unwrap_or(least),
+        _ => unreachable!(),
+    }
 }
 
 /// Which ends of a run are explained.
-#[tactic(auto, unfolding(crate::specs::CommandLine::said_of))]
-pub(crate) fn ends(found: &ArgMatches<'_>, line: &Line<'_>) -> Option<Why>
-    requires fit { IsSome (said_of (rows_of (found_of found.now)) (line_of line.now)) }
-    requires kind { line.now.2 ≡ Ends }
-    ensures { said_of (rows_of (found_of found.now)) (line_of line.now) ≡ Some (Explained result) }
+pub(crate) fn ends(found: &ArgMatches<'_>, id: &str) -> Option<Why>
+    ensures { result ≡ option_and_then why_of (first_of id.now (rows_of (found_of found.now))) }
 {
-    match text(found, line.0) {
+    match text(found, id) {
         Some(text) => why_of(text),
         None => None,
     }

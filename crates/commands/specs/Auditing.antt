@@ -25,7 +25,8 @@ Audits json rules run audited =
 
 -- Without a policy its entries are told.
 abbrev pub ListsEntries : Bool → Run → Audited → Type 0
-ListsEntries json run audited = (string_bytes audited.text ≡ entries_text json (events_to None run) (opening run.image)) × (audited.count ≡ 0)
+ListsEntries json run audited =
+    (string_bytes audited.text ≡ entries_text json (events_to None run) (opening run.image)) × (audited.count ≡ 0)
 
 abbrev pub AuditsBy : Bool → Option Rules → Run → Audited → Type 0
 AuditsBy json None run audited = ListsEntries json run audited

@@ -13,6 +13,7 @@ use crate::beginning::Beginning;
 use crate::fault::{ProgramFault, opening_fault, reading_fault};
 use crate::writing::Writing;
 use image::{Image, write_all};
+use schedules::Progress;
 use std::alloc::Global;
 use std::io;
 use std::io::{Read, Write};
@@ -28,6 +29,9 @@ pub trait Folder {
 
     /// A file that is written.
     type Made: Write + Drop;
+
+    /// Whoever waits for a run, and may be shown how far it came. What is shown is known to no clause.
+    type Waiting: Progress + Drop;
 
     // What became of the files, in order, where that is known: each that was made, and then what it held when it was closed.
     ghost files: { Self → Option (List File) } = { λ _. None };
@@ -49,6 +53,9 @@ pub trait Folder {
         ensures same { OnErr result (files self.new ≡ files self.old) }
         ensures files { OnOk result (Gains (files self.old) (files self.new) (begun name.now ∷ [])) }
         ensures empty { IfOk result (λ file. IsNew (files self.old) (Self.Made.contents file)) };
+
+    /// Whoever waits for a run from now on: nobody where nothing is to be told besides.
+    fn waiting(&self, is_quiet: bool) -> Self::Waiting;
 
     /// Closes a file that was made by this name and is written to its end.
     fn close(&mut self, name: &str, file: Self::Made)

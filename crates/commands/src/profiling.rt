@@ -14,15 +14,17 @@ use crate::files::{Folder, finish_file, make_file};
 use crate::loading::LoadedRun;
 use crate::running::{Left, ProgramMachine, run_image};
 use machine::Machine;
+use schedules::Progress;
 use sim_run::profile_before;
 use std::alloc::Global;
 use std::io::Write;
 
 /// The profile of a run up to before the step of a number, where one is given: the run is done for it once more, on a machine of its own.
-fn profile_of<'a>(
+fn profile_of<'a, P: Progress>(
     alloc: Global,
     run: &LoadedRun<'_>,
     stop: Option<u64>,
+    progress: &mut P,
 ) -> Result<String, ProgramFault<'a>>
     requires range { IsRunnable run.now.schedule }
     requires stop { IfSome stop (IsPlaceOf run.now.schedule) }
@@ -38,6 +40,7 @@ fn profile_of<'a>(
         run.schedule,
         &run.input,
         stop,
+        progress,
     )?;
     Ok(text)
 }
@@ -62,7 +65,7 @@ fn profile_image<'a, F: Folder, O: Write + Drop>(
 {
     let file = make_file(folder, name)?;
     let left = run_image(alloc, folder, run, stop, output)?;
-    let text = profile_of(alloc, run, stop)?;
+    let text = profile_of(alloc, run, stop, &mut folder.waiting(run.request.quiet))?;
     finish_file(folder, name, file, text.as_bytes())?;
     Ok(left)
 }

@@ -23,7 +23,7 @@ use crate::writing::{UntilFailure, Writing};
 use command_line::{RunRequest, Why};
 use image::{DeviceFailed, Image};
 use machine::{End, Machine};
-use schedules::Schedule;
+use schedules::{Nobody, Progress, Schedule};
 use sim_run::{
     Form, Ran, StopAt, TraceFault, count_steps, ending_lines, ending_object, find_stop,
     lines_skipped, run_before, run_traced_before, stopped_lines, stopped_objects,
@@ -229,12 +229,13 @@ fn whole_lines<'a, O: Write + Drop>(
 }
 
 /// Runs a machine from its image, up to before the step of a number, where one is given; writes to `output` what it sends, a line at a
-/// time.
-fn run_machine<'a, O: Write + Drop>(
+/// time, and what no line feed follows soon after.
+fn run_machine<'a, O: Write + Drop, P: Progress>(
     alloc: Global,
     run: &LoadedRun<'_>,
     stop: Option<u64>,
     output: O,
+    progress: &mut P,
 ) -> Result<Left<O>, ProgramFault<'a>>
     requires range { IsRunnable run.now.schedule }
     requires stop { IfSome stop (IsPlaceOf run.now.schedule) }
@@ -244,7 +245,8 @@ fn run_machine<'a, O: Write + Drop>(
 {
     let mut machine: ProgramMachine = Machine::new(alloc, &run.image)?;
     let mut sink = Writing::new(by_lines(alloc, output)?);
-    let ran = run_before(&mut machine, run.schedule, &run.input, stop, &mut sink)?;
+    let input = &run.input;
+    let ran = run_before(&mut machine, run.schedule, input, stop, &mut sink, progress)?;
     let output = whole_lines(sink.into_inner())?;
     Ok((machine, ran, output))
 }
@@ -302,10 +304,12 @@ fn trace_machine<'a, F: Folder, O: Write + Drop>(
     ensures ran { IfOk result (λ left. HasRun (run_of run.now) (events_to trace.entry.stop (run_of run.now)) left.0 left.1) }
     ensures sent { IfOk result (λ left.
         Sends (run_of run.now) (events_to trace.entry.stop (run_of run.now)) (O.contents output) (O.contents left.2)) }
-    ensures files { OnOk result (Gains (F.files folder.old) (F.files folder.new) (whole trace.entry.name.now (lines_past (says_by run.now.request.json run.now.table)
-        trace.entry.skipped 0 (events_to trace.entry.stop (run_of run.now)) (opening run.now.image)))) }
-    ensures err { IfErr result (FailsTraced trace.entry.name.now (lines_past (says_by run.now.request.json run.now.table) trace.entry.skipped 0
-        (events_to trace.entry.stop (run_of run.now)) (opening run.now.image)) (F.files folder.old) (F.files folder.new)) }
+    ensures files { OnOk result (Gains (F.files folder.old) (F.files folder.new) (whole trace.entry.name.now
+        (lines_past (says_by run.now.request.json run.now.table) trace.entry.skipped 0 (events_to trace.entry.stop (run_of run.now))
+        (opening run.now.image)))) }
+    ensures err { IfErr result (FailsTraced trace.entry.name.now
+        (lines_past (says_by run.now.request.json run.now.table) trace.entry.skipped 0 (events_to trace.entry.stop (run_of run.now))
+        (opening run.now.image)) (F.files folder.old) (F.files folder.new)) }
 {
     let mut machine: ProgramMachine = Machine::new(alloc, &run.image)?;
     let mut lines = Writing::new(make_trace(alloc, folder, trace.name)?);
@@ -314,16 +318,18 @@ fn trace_machine<'a, F: Folder, O: Write + Drop>(
         alloc,
         symbols: &run.table,
         json: run.request.json,
+        skipped: trace.skipped,
     };
+    let mut waiting = folder.waiting(run.request.quiet);
     match run_traced_before(
         &mut machine,
         run.schedule,
         &run.input,
         trace.stop,
-        trace.skipped,
         form,
         &mut sink,
         &mut lines,
+        &mut waiting,
     ) {
         Ok(ran) => {
             close_trace(folder, trace.name, lines.into_inner())?;
@@ -347,10 +353,11 @@ fn trace_machine<'a, F: Folder, O: Write + Drop>(
 
 /// How many of the first steps of a run have no line in its trace: where the last lines are to be kept, the run is done for it on a
 /// machine of its own.
-fn skipped<'a>(
+fn skipped<'a, P: Progress>(
     alloc: Global,
     run: &LoadedRun<'_>,
     stop: Option<u64>,
+    progress: &mut P,
 ) -> Result<u64, ProgramFault<'a>>
     requires range { IsRunnable run.now.schedule }
     requires stop { IfSome stop (IsPlaceOf run.now.schedule) }
@@ -363,7 +370,7 @@ fn skipped<'a>(
         None => Ok(from.saturating_sub(1)),
         Some(last) => {
             let mut machine: ProgramMachine = Machine::new(alloc, &run.image)?;
-            let steps = count_steps(&mut machine, run.schedule, &run.input, stop);
+            let steps = count_steps(&mut machine, run.schedule, &run.input, stop, progress);
             Ok(lines_skipped(from, last, steps))
         }
     }
@@ -387,9 +394,10 @@ pub fn run_image<'a, F: Folder, O: Write + Drop>(
     ensures err { IfErr result (FailsToTrace run.now.request.trace
         (trace_of run.now.request (run_of run.now) (events_to stop (run_of run.now))) (F.files folder.old) (F.files folder.new)) }
 {
+    let mut waiting = folder.waiting(run.request.quiet);
     match run.request.trace {
         Some(name) => {
-            let skipped = skipped(alloc, run, stop)?;
+            let skipped = skipped(alloc, run, stop, &mut waiting)?;
             let trace = Lines {
                 name,
                 skipped,
@@ -397,16 +405,17 @@ pub fn run_image<'a, F: Folder, O: Write + Drop>(
             };
             trace_machine(alloc, folder, run, trace, output)
         }
-        None => run_machine(alloc, run, stop, output),
+        None => run_machine(alloc, run, stop, output, &mut waiting),
     }
 }
 
 /// The number of the step that a run is to stop before, where it is to stop at a trap and meets one: the run is done for it step by step on
 /// a machine of its own.
-fn stop_of<'a>(
+fn stop_of<'a, P: Progress>(
     alloc: Global,
     run: &LoadedRun<'_>,
     at: Option<StopAt>,
+    progress: &mut P,
 ) -> Result<Option<u64>, ProgramFault<'a>>
     requires { IsRunnable run.now.schedule }
     ensures stops { IfOk result (λ stop. is_some stop ≡ stops at (run_of run.now)) }
@@ -418,7 +427,8 @@ fn stop_of<'a>(
         None => Ok(None),
         Some(at) => {
             let mut machine: ProgramMachine = Machine::new(alloc, &run.image)?;
-            Ok(find_stop(&mut machine, at, run.schedule, &run.input))
+            let stop = find_stop(&mut machine, at, run.schedule, &run.input, progress);
+            Ok(stop)
         }
     }
 }
@@ -440,7 +450,7 @@ pub fn run_freely<'a, F: Folder, O: Write + Drop>(
     ensures err { IfErr result (FailsFreely run.now.request profile.entry (run_of run.now) (events_of at (run_of run.now))
         (F.files folder.old) (F.files folder.new)) }
 {
-    let stop = stop_of(alloc, run, at)?;
+    let stop = stop_of(alloc, run, at, &mut folder.waiting(run.request.quiet))?;
     let (machine, ran, output) = run_profiled(alloc, folder, run, profile, stop, output)?;
     let ended = ending(alloc, run, stop, &machine, ran)?;
     Ok((ended, output))
@@ -453,10 +463,11 @@ pub fn run_whole<'a, O: Write + Drop>(
     output: O,
 ) -> Result<(Ended, O), ProgramFault<'a>>
     requires { IsRunnable run.now.schedule }
-    ensures ok { IfOk result (λ done. Runs (run_of run.now) None run.now.request.json run.now.request.quiet done.0 (O.contents output) (O.contents done.1)) }
+    ensures ok { IfOk result (λ done. Runs (run_of run.now) None run.now.request.json run.now.request.quiet done.0 (O.contents output)
+        (O.contents done.1)) }
     ensures err { IfErr result IsUnsentOrNoMemory }
 {
-    let (machine, ran, output) = run_machine(alloc, run, None, output)?;
+    let (machine, ran, output) = run_machine(alloc, run, None, output, &mut Nobody)?;
     let ended = ending(alloc, run, None, &machine, ran)?;
     Ok((ended, output))
 }

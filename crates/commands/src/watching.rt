@@ -18,6 +18,7 @@ use machine::Machine;
 use policy::Refused;
 use policy_audit::rule_line;
 use policy_runs::{Breach, find_breach};
+use schedules::Progress;
 use sim_run::StopAt;
 use std::alloc::{AllocError, Global};
 use std::io::Write;
@@ -89,10 +90,11 @@ struct Stop {
 }
 
 /// Where a policy stops a run, if it does: the run is done for it on a machine of its own.
-fn stop_of<'a>(
+fn stop_of<'a, P: Progress>(
     alloc: Global,
     run: &LoadedRun<'_>,
     rules: &Rules,
+    progress: &mut P,
 ) -> Result<Option<Stop>, ProgramFault<'a>>
     requires numbered { AreNumbered rules.now }
     requires range { IsRunnable run.now.schedule }
@@ -106,6 +108,7 @@ fn stop_of<'a>(
         &rules.policy.rules,
         run.schedule,
         &run.input,
+        progress,
     ) {
         Ok(Some(breach)) => Ok(Some(Stop {
             number: breach.number,
@@ -133,7 +136,8 @@ fn run_watched<'a, F: Folder, O: Write + Drop>(
     ensures err { IfErr result (FailsWatched rules.now run.now.request profile.entry (run_of run.now)
         (F.files folder.old) (F.files folder.new)) }
 {
-    match stop_of(alloc, run, rules)? {
+    let stop = stop_of(alloc, run, rules, &mut folder.waiting(run.request.quiet))?;
+    match stop {
         Some(stop) => {
             let number = Some(stop.number);
             let (_, ran, output) = run_profiled(alloc, folder, run, profile, number, output)?;

@@ -23,7 +23,7 @@ pub use conditions::put_bounds;
 pub use effect::{effect_text, size_text};
 pub use line::{Line, put_word_line, trace_line};
 pub use stages::put_failed;
-pub use standing::put_standing;
+pub use standing::{Standing, put_standing, put_standing_fields};
 pub use trace::trace_object;
 pub use trap::trap_text;
 pub use value::value_text;

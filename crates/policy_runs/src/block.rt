@@ -12,6 +12,7 @@ use crate::keeping::keep_steps;
 use cap_bounds::CapRep;
 use machine::{Event, Machine};
 use policy::Watcher;
+use schedules::{Count, Progress};
 use std::alloc::{AllocError, Global};
 
 /// Gives the machine the byte that comes, if one does.
@@ -37,13 +38,14 @@ fn tick<C: CapRep>(watcher: &Watcher<'_>, machine: &mut Machine<C>, ticks: bool)
 }
 
 /// Does so many steps as `keep_steps` does, with the byte before the first of them and the tick after the last.
-pub(crate) fn keep_block<C: CapRep>(
+pub(crate) fn keep_block<C: CapRep, P: Progress>(
     alloc: Global,
     watcher: &mut Watcher<'_>,
     machine: &mut Machine<C>,
     byte: Option<u8>,
     count: u64,
     ticks: bool,
+    counted: &mut Count<'_, P>,
 ) -> Result<Option<Breach>, AllocError>
     requires running { is_halted machine.old ≡ false }
     requires knows { Knows watcher.old machine.old }
@@ -58,7 +60,7 @@ pub(crate) fn keep_block<C: CapRep>(
     ensures room { OnErr result (1 ≤ length (said_to watcher.old)) }
 {
     bring(watcher, machine, byte);
-    if let Some(breach) = keep_steps(alloc, watcher, machine, count)? {
+    if let Some(breach) = keep_steps(alloc, watcher, machine, count, counted)? {
         return Ok(Some(breach));
     }
     if machine.halted().is_some() {

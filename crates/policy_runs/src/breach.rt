@@ -14,7 +14,7 @@ use crate::block::keep_block;
 use cap_bounds::CapRep;
 use machine::Machine;
 use policy::{Refused, Rule, Watcher};
-use schedules::Schedule;
+use schedules::{Count, Progress, Schedule};
 use std::alloc::{AllocError, Global};
 
 /// Where rules stop a run: before which step, and why.
@@ -28,7 +28,8 @@ pub struct Breach {
 
 /// The first step of a machine's run on a schedule before which a rule that applies is broken; none where there is none.
 ///
-/// The machine is run up to that step, the byte that comes just before it among what it met, and what it sends is forgotten. Before each
+/// The machine is run up to that step, the byte that comes just before it among what it met, and what it sends is forgotten; `progress` is
+/// told from time to time how many steps were done. Before each
 /// earlier step every rule that applied held, by the terms in force, and each of those steps kept to it. A run that halts the machine
 /// ends there.
 ///
@@ -37,12 +38,13 @@ pub struct Breach {
 /// Out of memory for what is known of the rules, before the run, or to find out what is reachable, before a step of it. It comes only where
 /// there are rules: without any nothing is asked of the allocator. The machine then stands there, and each step before kept to each rule
 /// that applied.
-pub fn find_breach<C: CapRep>(
+pub fn find_breach<C: CapRep, P: Progress>(
     alloc: Global,
     machine: &mut Machine<C>,
     rules: &[Rule],
     schedule: Schedule,
     input: &[u8],
+    progress: &mut P,
 ) -> Result<Option<Breach>, AllocError>
     requires range { IsRunnable schedule }
     requires running { is_halted machine.old ≡ false }
@@ -60,12 +62,21 @@ pub fn find_breach<C: CapRep>(
     ensures room { OnErr result (1 ≤ length rules.now) }
 {
     let mut watcher = Watcher::new(alloc, rules)?;
+    let mut counted = Count::new(progress);
     let mut done = 0;
     while done < schedule.steps {
         let byte = schedule.byte_before(input, done + 1);
         let count = schedule.steps_alone(input, done);
         let ticks = schedule.is_tick_after(done + count);
-        if let Some(breach) = keep_block(alloc, &mut watcher, machine, byte, count, ticks)? {
+        if let Some(breach) = keep_block(
+            alloc,
+            &mut watcher,
+            machine,
+            byte,
+            count,
+            ticks,
+            &mut counted,
+        )? {
             let number = done + breach.number;
             let refused = breach.refused;
             return Ok(Some(Breach { number, refused }));

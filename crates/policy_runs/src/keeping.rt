@@ -11,14 +11,17 @@ use crate::breach::Breach;
 use cap_bounds::CapRep;
 use machine::{Event, Machine};
 use policy::Watcher;
+use schedules::{Count, Progress, STRIDE};
 use std::alloc::{AllocError, Global};
 
-/// Does steps that keep to the rules, as each of them holds before the first: one at least and `most` at most. Answers how many.
-fn go_on<C: CapRep>(
+/// Does steps that keep to the rules, as each of them holds before the first: one at least and `most` at most. Counts them, and answers how
+/// many.
+fn go_on<C: CapRep, P: Progress>(
     alloc: Global,
     watcher: &mut Watcher<'_>,
     machine: &mut Machine<C>,
     most: u64,
+    counted: &mut Count<'_, P>,
 ) -> Result<u64, AllocError>
     requires some { 1 ≤ most }
     requires running { is_halted machine.old ≡ false }
@@ -33,20 +36,24 @@ fn go_on<C: CapRep>(
     ensures same { OnErr result (machine.new ≡ machine.old) }
     ensures room { OnErr result (1 ≤ length (said_to watcher.old)) }
 {
-    let fast = watcher.advance(machine, most);
+    let fast = watcher.advance(machine, most.min(STRIDE));
     if fast > 0 {
+        counted.pass(fast);
         return Ok(fast);
     }
     watcher.meet(alloc, machine, Event::Step)?;
+    counted.pass(1);
     Ok(1)
 }
 
-/// Does so many steps, or those up to the one that halts the machine, or those up to the first before which a rule is broken.
-pub(crate) fn keep_steps<C: CapRep>(
+/// Does so many steps, or those up to the one that halts the machine, or those up to the first before which a rule is broken; and counts
+/// them.
+pub(crate) fn keep_steps<C: CapRep, P: Progress>(
     alloc: Global,
     watcher: &mut Watcher<'_>,
     machine: &mut Machine<C>,
     count: u64,
+    counted: &mut Count<'_, P>,
 ) -> Result<Option<Breach>, AllocError>
     requires running { is_halted machine.old ≡ false }
     requires knows { Knows watcher.old machine.old }
@@ -65,7 +72,7 @@ pub(crate) fn keep_steps<C: CapRep>(
             let number = done + 1;
             return Ok(Some(Breach { number, refused }));
         }
-        done += go_on(alloc, watcher, machine, count - done)?;
+        done += go_on(alloc, watcher, machine, count - done, counted)?;
         if machine.halted().is_some() {
             return Ok(None);
         }

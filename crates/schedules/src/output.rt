@@ -14,14 +14,14 @@ use hart::Planned;
 use image::{DeviceFailed, Sink};
 use machine::Machine;
 
-/// How many steps after a byte the sink hands on what it keeps back, where no other byte comes before.
-const PATIENCE: u64 = 1_000_000;
+/// How many steps after a byte the sink hands on what it keeps back: about a millisecond.
+const PATIENCE: u64 = 100_000;
 
-/// Writes each byte that a machine sends at once. A million steps after the last byte the sink hands on what it keeps back.
+/// Writes each byte that a machine sends at once. What the sink keeps back it hands on 100,000 steps after the first byte of it.
 #[derive(Drop)]
 pub struct Output<'a, W: Sink> {
     sink: &'a mut W,
-    /// How many steps were done since the last byte, where what the sink keeps back was not handed on since.
+    /// How many steps were done since the first byte that the sink may keep back, if there is one.
     since: Option<u64>,
 }
 
@@ -36,8 +36,8 @@ impl<'a, W: Sink> Output<'a, W> {
     }
 }
 
-/// Lets the sink hand on what it keeps back, where so many steps more make it long since the last byte. Answers how many there were since
-/// it, if it is not handed on.
+/// Lets the sink hand on what it keeps back, where so many steps more make it long since the first byte of that. Answers how many there
+/// were since it, if it is not handed on.
 fn settle<W: Sink>(since: Option<u64>, steps: u64, sink: &mut W) -> Option<u64>
     ensures held { Keeps (W.held sink.old) (W.held sink.new) }
     ensures failed { W.failed sink.new ≡ W.failed sink.old }
@@ -52,8 +52,8 @@ fn settle<W: Sink>(since: Option<u64>, steps: u64, sink: &mut W) -> Option<u64>
     }
 }
 
-/// Writes the byte that the last of so many steps sent, if it sent one. Answers how many steps were done since the last byte, if what the
-/// sink keeps back was not handed on since.
+/// Writes the byte that the last of so many steps sent, if it sent one. Answers how many steps were done since the first byte that the sink
+/// may keep back, if there is one.
 fn write_sent<W: Sink>(
     byte: Option<u8>,
     since: Option<u64>,
@@ -71,7 +71,7 @@ fn write_sent<W: Sink>(
         None => Ok(settle(since, steps, sink)),
         Some(byte) => {
             sink.write(&[byte])?;
-            Ok(Some(0))
+            Ok(settle(since.or(Some(0)), steps, sink))
         }
     }
 }

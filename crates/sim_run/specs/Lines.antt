@@ -36,7 +36,8 @@ CountsLine old new (Ok x) = new ≡ old
 CountsLine old new (Err fault) = new ≡ old + calls_failed fault
 
 -- of these lines and that of the step after them a beginning was written, for this reason
-pub record MissedLine (fault : LineFault) (says : Says) (skipped before : ℕ) (events : List Event) (s : State) (held_old held_new : Option (List ℕ))
+pub record MissedLine (fault : LineFault) (says : Says) (skipped before : ℕ) (events : List Event) (s : State)
+    (held_old held_new : Option (List ℕ))
     (failed_old failed_new : ℕ)
     : Type 0 where
   pub lines : AppendsBeginning held_old held_new (lines_past says (skipped - before) before (events ++ Step ∷ []) s)

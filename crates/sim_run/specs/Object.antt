@@ -9,8 +9,10 @@ use Rattle.steps.specs.declared.event.Event.TheVariants.{Step}
 use Rattle.steps.specs.Event.{after}
 use Rattle.steps.specs.State.{State, pc_of}
 use Rattle.symbols.specs.Symbols.{Symbol}
+use Rattle.explain.specs.StandingText.{standing_fields}
 use Rattle.explain.specs.TrapText.{trap_text}
 use Rattle.explain.specs.WhyObjects.{why_objects}
+use Rattle.explain.specs.declared.standing.Standing.{Standing}
 use Rattle.objects.specs.Items.{address_field, null_field, number_field, object_field, object_line, text_field}
 use Rattle.objects.specs.Places.{place_field}
 use Rattle.sim_run.specs.Ending.{is_trapped}
@@ -59,22 +61,18 @@ trap_fields symbols (Some first) (Some last) s =
 trap_fields symbols first last s = no_trap_fields symbols s
 
 -- the number that it halted with, where it halted
-abbrev pub halted_field : End → List Token
-halted_field Running = null_field (codes "halted")
-halted_field (Halted number) = address_field (codes "halted") number
+abbrev pub number_halted : End → Option ℕ
+number_halted Running = None
+number_halted (Halted number) = Some number
 
-unfoldable pub run_fields : End → ℕ → List Token
-run_fields end steps =
-    number_field (codes "status") (status_of end) ++ halted_field end ++ number_field (codes "steps") steps
-
-unfoldable pub end_fields : List Symbol → End → ℕ → State → List Token
-end_fields symbols end steps s = run_fields end steps ++ place_field (codes "pcc") symbols (pc_of s)
+abbrev pub standing : End → ℕ → Standing
+standing end steps = record { status = status_of end; halted = number_halted end; steps = steps }
 
 -- how a run ended, how many steps were done, where PCC is, and the traps that matter
 abbrev pub ending_object : List Symbol → End → ℕ → Traps → State → List ℕ
 ending_object symbols end steps left s =
-    object_line (end_fields symbols end steps s ++ trap_fields symbols left.first left.last s)
+    object_line (standing_fields symbols (standing end steps) s ++ trap_fields symbols left.first left.last s)
 
 -- of a run that stopped before a trap: how it ended, and why its next step traps, by the lines of that
 unfoldable pub stopped_objects : List Symbol → End → ℕ → State → List ℕ
-stopped_objects symbols end steps s = object_line (end_fields symbols end steps s) ++ why_objects symbols s
+stopped_objects symbols end steps s = object_line (standing_fields symbols (standing end steps) s) ++ why_objects symbols s

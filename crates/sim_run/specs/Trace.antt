@@ -1,5 +1,6 @@
 -- A run with a trace: the lines that its steps leave, and what is done and written where a call of a sink fails.
-use Rattle.std.specs.Prelude.{◌≡◌, ℕ, ◌+◌, ◌-◌, Bool, true, if◌then◌else◌, List, [], ◌∷◌, ◌++◌, length, drop, Option, Some, None, Result, Ok, Err, is_some}
+use Rattle.std.specs.Prelude.{◌≡◌, ℕ, ◌+◌, ◌-◌, Bool, true, if◌then◌else◌, List, [], ◌∷◌, ◌++◌, length, drop, Option, Some, None, is_some}
+use Rattle.std.specs.Prelude.{Result, Ok, Err}
 use Rattle.std.specs.List.{concat}
 use Rattle.std.specs.Io.KnownBytes.{Appends}
 use Rattle.image.specs.Devices.{AppendsBeginning}
@@ -61,7 +62,8 @@ pub record IsOutputCut (says : Says) (skipped before : ℕ) (events : List Event
   pub lines : Appends traced_old traced_new (lines_past says skipped before (done ++ last ∷ []) old)
 
 -- The trace failed, or there was no memory for a line of it: the machine met the events up to a step that is not done. What they sent is
--- written, and of the lines with that of the step a beginning. A sink that writes in blocks holds what it has not written yet: its file then has a beginning of that.
+-- written, and of the lines with that of the step a beginning. A sink that writes in blocks holds what it has not written yet: its file
+-- then has a beginning of that.
 pub record IsTraceCut (says : Says) (skipped before : ℕ) (events : List Event) (old new : State)
     (held_old held_new traced_old traced_new : Option (List ℕ))
     : Type 0 where

@@ -11,20 +11,21 @@ ghost use Rattle.schedules.specs.Schedule.{IsPlaceOf};
 ghost use Rattle.schedules.specs.Schedule.{events_before};
 ghost use Rattle.sim_run.specs.Trace.{lines_past, says_of, trace_text, CountsTraced, Says, WasCut};
 
-use crate::run::{Ran, bring, run_counted, skip};
+use crate::run::{Ran, bring, run_told, skip};
 use crate::traced::{Form, TraceFault, run_traced};
 use cap_bounds::CapRep;
 use image::{DeviceFailed, Sink};
 use machine::Machine;
-use schedules::Schedule;
+use schedules::{Progress, Schedule};
 
 /// Runs a machine on a schedule up to the step of a number, which is not done, and gives it the byte that comes just before that step.
-fn run_to<C: CapRep, W: Sink>(
+fn run_to<C: CapRep, W: Sink, P: Progress>(
     machine: &mut Machine<C>,
     schedule: Schedule,
     input: &[u8],
     number: u64,
     sink: &mut W,
+    progress: &mut P,
 ) -> Result<Ran, DeviceFailed>
     requires range { IsRunnable schedule }
     requires place { IsPlaceOf schedule number }
@@ -39,7 +40,7 @@ fn run_to<C: CapRep, W: Sink>(
         (W.held sink.old) (W.held sink.new)) }
     ensures count { Counts (W.failed sink.old) (W.failed sink.new) result }
 {
-    match skip(machine, schedule, input, number - 1, sink) {
+    match skip(machine, schedule, input, number - 1, sink, progress) {
         Ok(ran) => {
             bring(machine, schedule.byte_before(input, number));
             Ok(ran)
@@ -49,13 +50,14 @@ fn run_to<C: CapRep, W: Sink>(
 }
 
 /// Runs a machine as `run_counted` does up to the step of a number, which is not done, and gives it the byte that comes just before that
-/// step; or all of the schedule, where no number is given.
-pub fn run_before<C: CapRep, W: Sink>(
+/// step; or all of the schedule, where no number is given. It tells `progress` from time to time how many steps were done.
+pub fn run_before<C: CapRep, W: Sink, P: Progress>(
     machine: &mut Machine<C>,
     schedule: Schedule,
     input: &[u8],
     stop: Option<u64>,
     sink: &mut W,
+    progress: &mut P,
 ) -> Result<Ran, DeviceFailed>
     requires range { IsRunnable schedule }
     requires place { IfSome stop (IsPlaceOf schedule) }
@@ -71,22 +73,22 @@ pub fn run_before<C: CapRep, W: Sink>(
     ensures count { Counts (W.failed sink.old) (W.failed sink.new) result }
 {
     match stop {
-        None => run_counted(machine, schedule, input, sink),
-        Some(number) => run_to(machine, schedule, input, number, sink),
+        None => run_told(machine, schedule, input, sink, progress),
+        Some(number) => run_to(machine, schedule, input, number, sink, progress),
     }
 }
 
 /// Runs a machine with a trace up to the step of a number, which is not done and has no line, and gives it the byte that comes just before
 /// that step.
-fn trace_to<C: CapRep, W: Sink, T: Sink>(
+fn trace_to<C: CapRep, W: Sink, T: Sink, P: Progress>(
     machine: &mut Machine<C>,
     schedule: Schedule,
     input: &[u8],
     number: u64,
-    skipped: u64,
     form: Form<'_>,
     sink: &mut W,
     trace: &mut T,
+    progress: &mut P,
 ) -> Result<Ran, TraceFault>
     requires range { IsRunnable schedule }
     requires place { IsPlaceOf schedule number }
@@ -97,15 +99,16 @@ fn trace_to<C: CapRep, W: Sink, T: Sink>(
     ensures bytes { OnOk result (Appends (W.held sink.old) (W.held sink.new)
         (run_sent (events_before (Some number) schedule input.now machine.old) machine.old)) }
     ensures lines { OnOk result (Appends (T.held trace.old) (T.held trace.new)
-        (lines_past (says_of form.entry) skipped 0 (events_before (Some number) schedule input.now machine.old) machine.old)) }
+        (lines_past (says_of form.entry) form.entry.skipped 0 (events_before (Some number) schedule input.now machine.old) machine.old)) }
     ensures end { IfOk result (λ ran. ran.end ≡ end_of machine.new) }
     ensures steps { IfOk result (λ ran. ran.steps ≡ steps_in (events_before (Some number) schedule input.now machine.old)) }
-    ensures cut { IfErr result (λ fault. WasCut (says_of form.entry) fault skipped 0 (events_before (Some number) schedule input.now machine.old)
-        machine.old machine.new (W.held sink.old) (W.held sink.new) (T.held trace.old) (T.held trace.new)) }
+    ensures cut { IfErr result (λ fault. WasCut (says_of form.entry) fault form.entry.skipped 0
+        (events_before (Some number) schedule input.now machine.old) machine.old machine.new
+        (W.held sink.old) (W.held sink.new) (T.held trace.old) (T.held trace.new)) }
     ensures count { CountsTraced result (W.failed sink.old) (W.failed sink.new) (T.failed trace.old) (T.failed trace.new) }
 {
     let first = schedule.first(number - 1);
-    match run_traced(machine, first, input, skipped, form, sink, trace) {
+    match run_traced(machine, first, input, form, sink, trace, progress) {
         Ok(ran) => {
             bring(machine, schedule.byte_before(input, number));
             Ok(ran)
@@ -116,15 +119,15 @@ fn trace_to<C: CapRep, W: Sink, T: Sink>(
 
 /// Runs a machine as `run_traced` does up to the step of a number, which is not done and has no line, and gives it the byte that comes
 /// just before that step; or all of the schedule, where no number is given.
-pub fn run_traced_before<C: CapRep, W: Sink, T: Sink>(
+pub fn run_traced_before<C: CapRep, W: Sink, T: Sink, P: Progress>(
     machine: &mut Machine<C>,
     schedule: Schedule,
     input: &[u8],
     stop: Option<u64>,
-    skipped: u64,
     form: Form<'_>,
     sink: &mut W,
     trace: &mut T,
+    progress: &mut P,
 ) -> Result<Ran, TraceFault>
     requires range { IsRunnable schedule }
     requires place { IfSome stop (IsPlaceOf schedule) }
@@ -135,16 +138,19 @@ pub fn run_traced_before<C: CapRep, W: Sink, T: Sink>(
     ensures bytes { OnOk result (Appends (W.held sink.old) (W.held sink.new)
         (run_sent (events_before stop schedule input.now machine.old) machine.old)) }
     ensures lines { OnOk result (Appends (T.held trace.old) (T.held trace.new)
-        (lines_past (says_of form.entry) skipped 0 (events_before stop schedule input.now machine.old) machine.old)) }
+        (lines_past (says_of form.entry) form.entry.skipped 0 (events_before stop schedule input.now machine.old) machine.old)) }
     ensures end { IfOk result (λ ran. ran.end ≡ end_of machine.new) }
     ensures steps { IfOk result (λ ran. ran.steps ≡ steps_in (events_before stop schedule input.now machine.old)) }
-    ensures cut { IfErr result (λ fault. WasCut (says_of form.entry) fault skipped 0 (events_before stop schedule input.now machine.old) machine.old
-        machine.new (W.held sink.old) (W.held sink.new) (T.held trace.old) (T.held trace.new)) }
+    ensures cut { IfErr result (λ fault. WasCut (says_of form.entry) fault form.entry.skipped 0
+        (events_before stop schedule input.now machine.old) machine.old machine.new
+        (W.held sink.old) (W.held sink.new) (T.held trace.old) (T.held trace.new)) }
     ensures count { CountsTraced result (W.failed sink.old) (W.failed sink.new) (T.failed trace.old) (T.failed trace.new) }
 {
     match stop {
-        None => run_traced(machine, schedule, input, skipped, form, sink, trace),
-        Some(number) => trace_to(machine, schedule, input, number, skipped, form, sink, trace),
+        None => run_traced(machine, schedule, input, form, sink, trace, progress),
+        Some(number) => trace_to(
+            machine, schedule, input, number, form, sink, trace, progress,
+        ),
     }
 }
 
@@ -165,18 +171,19 @@ impl Sink for Nowhere {
 }
 
 /// How many steps a run of a machine does that is run as by `run_before`. What it sends is forgotten, and it takes no memory.
-pub fn count_steps<C: CapRep>(
+pub fn count_steps<C: CapRep, P: Progress>(
     machine: &mut Machine<C>,
     schedule: Schedule,
     input: &[u8],
     stop: Option<u64>,
+    progress: &mut P,
 ) -> u64
     requires range { IsRunnable schedule }
     requires place { IfSome stop (IsPlaceOf schedule) }
     requires running { is_halted machine.old ≡ false }
     ensures { result ≡ steps_in (events_before stop schedule input.now machine.old) }
 {
-    match run_before(machine, schedule, input, stop, &mut Nowhere) {
+    match run_before(machine, schedule, input, stop, &mut Nowhere, progress) {
         Ok(ran) => ran.steps,
         // No call of that sink fails.
         Err(_) => unreachable!(),

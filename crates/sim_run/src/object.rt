@@ -4,17 +4,18 @@ ghost use Rattle.std.specs.Prelude.{◌≡◌, ◌++◌, IfOk, OnOk, string_byte
 ghost use Rattle.hart.specs.Opening.{opening};
 ghost use Rattle.machine.specs.Run.{run_after};
 ghost use Rattle.schedules.specs.Schedule.{scheduled, IsRunnable};
-ghost use Rattle.sim_run.specs.Object.{end_fields, ending_object, fault_fields, last_trap_field, run_fields, stopped_objects, trap_field};
+ghost use Rattle.explain.specs.StandingText.{standing_fields};
+ghost use Rattle.sim_run.specs.Object.{ending_object, fault_fields, last_trap_field, standing, stopped_objects, trap_field};
 ghost use Rattle.sim_run.specs.Unhandled.{trap_left};
 ghost use Rattle.sim_run.specs.Watched.{fields_of};
 
-use crate::ending::{is_trapped, mcause, mepc, mtval, pc, verdict};
+use crate::ending::{is_trapped, mcause, mepc, mtval, verdict};
 use crate::notes::{First, Last};
 use crate::run::Ran;
 use crate::unhandled::traps_taken;
 use base::Fault;
 use cap_bounds::CapRep;
-use explain::{put_why_objects, trap_text};
+use explain::{Standing, put_standing_fields, put_why_objects, trap_text};
 use image::Image;
 use machine::{End, Machine};
 use objects::{Item, Writer, begin, finish, put, put_place};
@@ -119,34 +120,34 @@ fn put_traps<C: CapRep>(
     }
 }
 
-/// Says how a run ended, and how many steps were done.
-#[tactic(auto, unfolding(crate::specs::Object::run_fields))]
-fn put_run(object: &mut Writer, ran: Ran) -> Result<(), AllocError>
-    ensures tokens { OnOk result (object.new.tokens ≡ object.old.tokens ++ run_fields ran.end ran.steps) }
-    ensures alone { object.new.before ≡ object.old.before }
+/// How a run ended, and how many steps were done.
+fn standing(ran: Ran) -> Standing
+    ensures { result ≡ standing ran.end ran.steps }
 {
     let (status, _) = verdict(ran.end);
-    let status = Item::Number("status", u64::from(status));
-    let steps = Item::Number("steps", ran.steps);
-    match ran.end {
-        End::Halted(number) => put(object, &[status, Item::Address("halted", number), steps]),
-        End::Running => put(object, &[status, Item::Null("halted"), steps]),
+    let halted = match ran.end {
+        End::Halted(number) => Some(number),
+        End::Running => None,
+    };
+    Standing {
+        status,
+        halted,
+        steps: ran.steps,
     }
 }
 
 /// Says how a run ended, how many steps were done, and where PCC is.
-#[tactic(auto, unfolding(crate::specs::Object::end_fields), using(objects::specs::ItemLaws::said_two))]
 fn put_end<C: CapRep>(
     object: &mut Writer,
     symbols: &Symbols,
     machine: &Machine<C>,
     ran: Ran,
 ) -> Result<(), AllocError>
-    ensures tokens { OnOk result (object.new.tokens ≡ object.old.tokens ++ end_fields symbols.now ran.end ran.steps machine.now) }
+    ensures tokens { OnOk result (object.new.tokens
+        ≡ object.old.tokens ++ standing_fields symbols.now (standing ran.end ran.steps) machine.now) }
     ensures alone { object.new.before ≡ object.old.before }
 {
-    put_run(object, ran)?;
-    put_place(object, "pcc", symbols, pc(machine))
+    put_standing_fields(object, symbols, machine.hart(), standing(ran))
 }
 
 /// The line of an object that says how a run of an image on a schedule ended, of the same values as `ending_lines`: its status, the number

@@ -18,7 +18,7 @@ use crate::tally::{Tally, count_step, profile_of};
 use cap_bounds::CapRep;
 use hart::Planned;
 use machine::Machine;
-use schedules::{How, Pace, Schedule, Speed, Walking, Watch, walk_whole};
+use schedules::{How, Pace, Progress, Schedule, Speed, Walking, Watch, walk_told};
 use std::alloc::{AllocError, Global};
 use symbols::Symbols;
 
@@ -109,12 +109,13 @@ impl<C: CapRep> Watch<Machine<C>> for Fetches<'_> {
 }
 
 /// Runs a machine on a schedule, and answers the profile of its steps.
-fn profile<C: CapRep>(
+fn profile<C: CapRep, P: Progress>(
     alloc: Global,
     symbols: &Symbols,
     machine: &mut Machine<C>,
     schedule: Schedule,
     input: &[u8],
+    progress: &mut P,
 ) -> Result<String, AllocError>
     requires range { IsRunnable schedule }
     requires running { is_halted machine.old ≡ false }
@@ -126,7 +127,7 @@ fn profile<C: CapRep>(
         tally: Tally::new(alloc),
         number: 0,
     };
-    let Walking { how, steps } = walk_whole(machine, schedule, input, &mut watch);
+    let Walking { how, steps } = walk_told(machine, schedule, input, &mut watch, progress);
     match how {
         How::Done | How::Halted => profile_of(alloc, symbols, steps, &watch.tally),
         // A schedule has fewer steps than have a number of 64 bits.
@@ -137,19 +138,20 @@ fn profile<C: CapRep>(
 }
 
 /// The profile of the steps that a run of a machine does, which is run as by `run_before`: how many were fetched at each label, or in each
-/// 4 KiB where no label is near, most first, and how many all are. What the machine sends is forgotten. A step takes memory only where it
-/// is the first at its place.
+/// 4 KiB where no label is near, most first, and how many all are. What the machine sends is forgotten, and `progress` is told from time to
+/// time how many steps were done. A step takes memory only where it is the first at its place.
 ///
 /// # Errors
 ///
 /// Out of memory.
-pub fn profile_before<C: CapRep>(
+pub fn profile_before<C: CapRep, P: Progress>(
     alloc: Global,
     symbols: &Symbols,
     machine: &mut Machine<C>,
     schedule: Schedule,
     input: &[u8],
     stop: Option<u64>,
+    progress: &mut P,
 ) -> Result<String, AllocError>
     requires range { IsRunnable schedule }
     requires place { IfSome stop (IsPlaceOf schedule) }
@@ -158,8 +160,11 @@ pub fn profile_before<C: CapRep>(
         (string_bytes text)) }
 {
     match stop {
-        None => profile(alloc, symbols, machine, schedule, input),
+        None => profile(alloc, symbols, machine, schedule, input, progress),
         // Before that step comes a byte at most, which is no step.
-        Some(number) => profile(alloc, symbols, machine, schedule.first(number - 1), input),
+        Some(number) => {
+            let first = schedule.first(number - 1);
+            profile(alloc, symbols, machine, first, input, progress)
+        }
     }
 }

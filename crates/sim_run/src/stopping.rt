@@ -24,7 +24,7 @@ use cap_checks::check_fetch;
 use explain::{put_standing, put_why};
 use hart::Planned;
 use machine::Machine;
-use schedules::{How, Pace, Schedule, Speed, Walking, Watch, walk_whole};
+use schedules::{How, Pace, Progress, Schedule, Speed, Walking, Watch, walk_told};
 use special_regs::enter_trap;
 use std::alloc::{AllocError, Global};
 use std::convert::Infallible;
@@ -207,12 +207,14 @@ impl<C: CapRep> Watch<Machine<C>> for Stop {
 }
 
 /// The number of the first step of a machine's run on a schedule, counted from 1, that is a trap to stop before; none where there is none.
-/// The machine is run up to it, at once over plain steps, and what it sends is forgotten. It takes no memory.
-pub fn find_stop<C: CapRep>(
+/// The machine is run up to it, at once over plain steps, and what it sends is forgotten; `progress` is told from time to time how many
+/// steps were done. It takes no memory.
+pub fn find_stop<C: CapRep, P: Progress>(
     machine: &mut Machine<C>,
     at: StopAt,
     schedule: Schedule,
     input: &[u8],
+    progress: &mut P,
 ) -> Option<u64>
     requires range { IsRunnable schedule }
     requires running { is_halted machine.old ≡ false }
@@ -222,7 +224,7 @@ pub fn find_stop<C: CapRep>(
     ensures place { IfSome result (IsPlaceOf schedule) }
 {
     let mut stop = Stop { at, only: None };
-    let Walking { how, steps } = walk_whole(machine, schedule, input, &mut stop);
+    let Walking { how, steps } = walk_told(machine, schedule, input, &mut stop, progress);
     match how {
         How::Done | How::Halted => None,
         How::Stopped => Some(steps + 1),

@@ -1,6 +1,6 @@
 //! A machine that is run on a schedule, with a line of a trace for each of its steps.
 
-ghost use Rattle.std.proofs.Common.{◌∙◌};
+ghost use Rattle.std.proofs.Common.{ap, ◌∙◌};
 ghost use Rattle.std.specs.Prelude.{◌≡◌, ◌<◌, ◌+◌, ◌-◌, ◌^◌, ◌==◌, IfOk, IfErr, OnOk, OnErr, false, true, nat_lt, [], ◌∷◌, ⊤, refl};
 ghost use Rattle.std.specs.Io.KnownBytes.{Appends};
 ghost use Rattle.image.specs.Devices.{AppendsBeginning, Counts};
@@ -21,7 +21,9 @@ use explain::{trace_line, trace_object};
 use hart::Planned;
 use image::{Sink, write_all};
 use machine::{End, Machine};
-use schedules::{Both, Either, How, Output, Pace, Schedule, Speed, Walking, Watch, walk_whole};
+use schedules::{
+    Both, Either, How, Output, Pace, Progress, Schedule, Speed, Walking, Watch, walk_told,
+};
 use std::alloc::Global;
 use symbols::Symbols;
 
@@ -54,6 +56,8 @@ pub struct Form<'a> {
     pub symbols: &'a Symbols,
     /// As objects of JSON, or in words.
     pub json: bool,
+    /// How many of the first steps have no line.
+    pub skipped: u64,
 }
 
 /// A watch that writes the line of each step before it is done, past the first so many. It stops before a step whose number has more
@@ -62,25 +66,21 @@ pub struct Form<'a> {
 pub struct Lines<'a, T: Sink> {
     form: Form<'a>,
     trace: &'a mut T,
-    /// How many of the first steps have no line.
-    skipped: u64,
     /// How many steps were done.
     number: u64,
 }
 
 impl<'a, T: Sink> Lines<'a, T> {
     /// A watch of a run from its begin.
-    pub fn new(form: Form<'a>, trace: &'a mut T, skipped: u64) -> Self
+    pub fn new(form: Form<'a>, trace: &'a mut T) -> Self
         ensures same_reference { result.trace.ghost_name ≡ trace.entry.ghost_name }
         ensures trace { result.trace.now ≡ trace.old }
         ensures form { result.form ≡ form.entry }
-        ensures skipped { result.skipped ≡ skipped }
         ensures number { result.number ≡ 0 }
     {
         Lines {
             form,
             trace,
-            skipped,
             number: 0,
         }
     }
@@ -168,7 +168,6 @@ fn write_step<C: CapRep, T: Sink>(
 fn write_line<C: CapRep, T: Sink>(
     form: Form<'_>,
     trace: &mut T,
-    skipped: u64,
     before: u64,
     machine: &Machine<C>,
     planned: &Planned<C>,
@@ -177,12 +176,12 @@ fn write_line<C: CapRep, T: Sink>(
     requires fetched { planned.now.fetched ≡ step_fetched machine.now }
     requires ready { T.failed trace.old < 2 ^ 64 - 1 }
     ensures ok { before < 2 ^ 64 - 1 → OnOk result (Appends (T.held trace.old) (T.held trace.new)
-        (lines_past (says_of form.entry) (skipped - before) before (Step ∷ []) machine.now)) }
+        (lines_past (says_of form.entry) (form.entry.skipped - before) before (Step ∷ []) machine.now)) }
     ensures err { before < 2 ^ 64 - 1 → OnErr result (AppendsBeginning (T.held trace.old) (T.held trace.new)
-        (lines_past (says_of form.entry) (skipped - before) before (Step ∷ []) machine.now)) }
+        (lines_past (says_of form.entry) (form.entry.skipped - before) before (Step ∷ []) machine.now)) }
     ensures count { CountsLine (T.failed trace.old) (T.failed trace.new) result }
 {
-    if before < skipped {
+    if before < form.skipped {
         return Ok(());
     }
     write_step(form, trace, before.saturating_add(1), machine, planned)
@@ -205,52 +204,52 @@ fn lines_pace(skipped: u64, number: u64) -> Pace
 impl<C: CapRep, T: Sink> Watch<Machine<C>> for Lines<'_, T> {
     type Fault = LineFault;
 
-    ghost Saw = { λ events s a b. (b.trace.ghost_name ≡ a.trace.ghost_name) × (b.form ≡ a.form) × (b.skipped ≡ a.skipped)
-        × WroteLines (says_of a.form) a.skipped a.number events s (T.held a.trace.now) (T.held b.trace.now) (T.failed a.trace.now)
+    ghost Saw = { λ events s a b. (b.trace.ghost_name ≡ a.trace.ghost_name) × (b.form ≡ a.form)
+        × WroteLines (says_of a.form) a.form.skipped a.number events s (T.held a.trace.now) (T.held b.trace.now) (T.failed a.trace.now)
         (T.failed b.trace.now) b.number };
 
     ghost Lost = { λ _ _ _ _ _. ⊥ };
 
     ghost Barred = { λ fault events s a b. (b.trace.ghost_name ≡ a.trace.ghost_name)
-        × MissedLine fault (says_of a.form) a.skipped a.number events s (T.held a.trace.now) (T.held b.trace.now) (T.failed a.trace.now)
-        (T.failed b.trace.now) };
+        × MissedLine fault (says_of a.form) a.form.skipped a.number events s (T.held a.trace.now) (T.held b.trace.now)
+        (T.failed a.trace.now) (T.failed b.trace.now) };
 
-    ghost Asked = { λ s a b. (b.trace.ghost_name ≡ a.trace.ghost_name) × (b.form ≡ a.form) × (b.skipped ≡ a.skipped)
+    ghost Asked = { λ s a b. (b.trace.ghost_name ≡ a.trace.ghost_name) × (b.form ≡ a.form)
         × (b.number ≡ a.number) × (a.number < 2 ^ 64 - 1)
-        × Appends (T.held a.trace.now) (T.held b.trace.now) (lines_past (says_of a.form) (a.skipped - a.number) a.number (Step ∷ []) s)
+        × Appends (T.held a.trace.now) (T.held b.trace.now)
+        (lines_past (says_of a.form) (a.form.skipped - a.number) a.number (Step ∷ []) s)
         × (T.failed b.trace.now ≡ T.failed a.trace.now) };
 
-    ghost IsReady = { λ w. (T.failed w.trace.now < 2 ^ 64 - 1) × (w.skipped < 2 ^ 64) × (w.number < 2 ^ 64) };
+    ghost IsReady = { λ w. (T.failed w.trace.now < 2 ^ 64 - 1) × (w.form.skipped < 2 ^ 64) × (w.number < 2 ^ 64) };
 
-    ghost pace_of = { λ w. lines_pace w.skipped w.number };
+    ghost pace_of = { λ w. lines_pace w.form.skipped w.number };
 
     ghost stops_at = { λ w _. w.number == 18446744073709551615 };
 
     ghost starts = { λ s w. (
       refl,
       refl,
-      refl,
-      wrote_no_line (says_of w.form) w.skipped w.number s (T.held w.trace.now)
+      wrote_no_line (says_of w.form) w.form.skipped w.number s (T.held w.trace.now)
           (T.failed w.trace.now),
     ) };
 
     ghost goes_on = { λ xs ys s u v w first later. (
       later.0 ∙ first.0,
       later.1 ∙ first.1,
-      later.2 ∙ first.2,
-      wrote_more xs ys s u.form v.form u.skipped v.skipped u.number v.number _ _ _ _ _ _ first.1 first.2 first.3 w.number
-          later.3,
+      wrote_more xs ys s u.form v.form u.form.skipped v.form.skipped u.number v.number _ _ _ _ _ _ first.1 (ap (λ f. f.skipped) first.1)
+          first.2 w.number later.2,
     ) };
 
     ghost fails_later = { λ fault xs ys s u v w first later. later };
 
     ghost bars_later = { λ fault xs ys s u v w first later. (
       later.0 ∙ first.0,
-      missed_more xs ys s u.form v.form u.skipped v.skipped u.number v.number _ _ _ _ _ _ first.1 first.2 first.3 fault later.1,
+      missed_more xs ys s u.form v.form u.form.skipped v.form.skipped u.number v.number _ _ _ _ _ _ first.1 (ap (λ f. f.skipped) first.1)
+          first.2 fault later.1,
     ) };
 
     fn pace(&self) -> Pace {
-        lines_pace(self.skipped, self.number)
+        lines_pace(self.form.skipped, self.number)
     }
 
     fn stops(&self, _machine: &Machine<C>, _planned: &Planned<C>) -> bool {
@@ -270,14 +269,7 @@ impl<C: CapRep, T: Sink> Watch<Machine<C>> for Lines<'_, T> {
     }
 
     fn before(&mut self, machine: &Machine<C>, planned: &Planned<C>) -> Result<(), LineFault> {
-        write_line(
-            self.form,
-            self.trace,
-            self.skipped,
-            self.number,
-            machine,
-            planned,
-        )
+        write_line(self.form, self.trace, self.number, machine, planned)
     }
 
     fn after(&mut self, _machine: &Machine<C>, _sent: Option<u8>) -> Result<(), LineFault> {
@@ -286,20 +278,21 @@ impl<C: CapRep, T: Sink> Watch<Machine<C>> for Lines<'_, T> {
     }
 }
 
-/// Runs a machine as `run_counted` does, and past the first `skipped` steps step by step: of each of those steps it writes a line to
-/// `trace`, with the step's number, counted from 1, PCC's address, the word of the instruction there with its text, and what the step
+/// Runs a machine as `run_counted` does, and past the first steps that have no line step by step: of each of those steps it writes a line
+/// to `trace`, with the step's number, counted from 1, PCC's address, the word of the instruction there with its text, and what the step
 /// comes to; after an address stands its label. Where objects are asked for, the line is that of an object of the same values.
 ///
 /// The line of a step is written before the step is done. Where it could not be written, the step is not done and the run ends there;
-/// where a byte could not be written, it ends after the step that sent it, as an untraced run does. It takes no memory but for objects.
-pub fn run_traced<C: CapRep, W: Sink, T: Sink>(
+/// where a byte could not be written, it ends after the step that sent it, as an untraced run does. It takes no memory but for objects, and
+/// tells `progress` from time to time how many steps were done.
+pub fn run_traced<C: CapRep, W: Sink, T: Sink, P: Progress>(
     machine: &mut Machine<C>,
     schedule: Schedule,
     input: &[u8],
-    skipped: u64,
     form: Form<'_>,
     sink: &mut W,
     trace: &mut T,
+    progress: &mut P,
 ) -> Result<Ran, TraceFault>
     requires range { IsRunnable schedule }
     requires running { is_halted machine.old ≡ false }
@@ -309,18 +302,18 @@ pub fn run_traced<C: CapRep, W: Sink, T: Sink>(
     ensures bytes { OnOk result (Appends (W.held sink.old) (W.held sink.new)
         (run_sent (scheduled schedule input.now machine.old) machine.old)) }
     ensures lines { OnOk result (Appends (T.held trace.old) (T.held trace.new)
-        (lines_past (says_of form.entry) skipped 0 (scheduled schedule input.now machine.old) machine.old)) }
+        (lines_past (says_of form.entry) form.entry.skipped 0 (scheduled schedule input.now machine.old) machine.old)) }
     ensures end { IfOk result (λ ran. ran.end ≡ end_of machine.new) }
     ensures steps { IfOk result (λ ran. ran.steps ≡ steps_in (scheduled schedule input.now machine.old)) }
-    ensures cut { IfErr result (λ fault. WasCut (says_of form.entry) fault skipped 0 (scheduled schedule input.now machine.old) machine.old
-        machine.new (W.held sink.old) (W.held sink.new) (T.held trace.old) (T.held trace.new)) }
+    ensures cut { IfErr result (λ fault. WasCut (says_of form.entry) fault form.entry.skipped 0 (scheduled schedule input.now machine.old)
+        machine.old machine.new (W.held sink.old) (W.held sink.new) (T.held trace.old) (T.held trace.new)) }
     ensures count { CountsTraced result (W.failed sink.old) (W.failed sink.new) (T.failed trace.old) (T.failed trace.new) }
 {
     let mut both = Both {
-        first: Lines::new(form, trace, skipped),
+        first: Lines::new(form, trace),
         second: Output::new(sink),
     };
-    let Walking { how, steps } = walk_whole(machine, schedule, input, &mut both);
+    let Walking { how, steps } = walk_told(machine, schedule, input, &mut both, progress);
     match how {
         How::Done => {
             let end = End::Running;

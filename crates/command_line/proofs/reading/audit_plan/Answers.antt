@@ -1,50 +1,35 @@
 use Rattle.std.proofs.Common.{◌∙◌, ap, refl, sym, Some}
 use Rattle.command_line.specs.CommandLine.{Amount, File, Used, commands}
+use Rattle.command_line.proofs.Read.{count_said, count_there, file_said, flag_said, operand_there}
 use Rattle.command_line.proofs.reading.audit_plan.Goals as goal
 
-pub operand-requires-clause-fit : goal.operand-requires-clause-fit
+pub operand-requires : goal.operand-requires
 unfolding commands
-operand-requires-clause-fit c = c.requires.0
+operand-requires c = operand_there _ _ _ _ _ c.requires.0 refl
 
-pub operand-requires-clause-kind : goal.operand-requires-clause-kind
+pub its_count-requires : goal.its_count-requires
 unfolding commands
-operand-requires-clause-kind c = refl
+its_count-requires c = count_there _ _ _ _ _ _ c.requires.1.0 refl
 
-pub amount-requires-clause-fit : goal.amount-requires-clause-fit
+pub its_count-requires-2 : goal.its_count-requires-2
 unfolding commands
-amount-requires-clause-fit c = c.requires.1.0
-
-pub amount-requires-clause-kind : goal.amount-requires-clause-kind
-unfolding commands
-amount-requires-clause-kind c = refl
-
-pub amount-requires-2-clause-fit : goal.amount-requires-2-clause-fit
-unfolding commands
-amount-requires-2-clause-fit c = c.requires.1.1.0
-
-pub amount-requires-2-clause-kind : goal.amount-requires-2-clause-kind
-unfolding commands
-amount-requires-2-clause-kind c = refl
+its_count-requires-2 c = count_there _ _ _ _ _ _ c.requires.1.1.0 refl
 
 pub run_request-requires : goal.run_request-requires
 unfolding commands
 run_request-requires c =
     let rest = c.requires.1.1.1 in (rest.0, (rest.1.0, (rest.1.1.0, (rest.1.1.1.0, rest.1.1.1.1.1))))
 
-pub flag-requires-clause-fit : goal.flag-requires-clause-fit
-unfolding commands
-flag-requires-clause-fit c = c.requires.1.1.1.1.1.1.1.0
-
-pub flag-requires-clause-kind : goal.flag-requires-clause-kind
-unfolding commands
-flag-requires-clause-kind c = refl
-
 pub returns : goal.returns
 unfolding commands
 returns c =
     let run = c.run_request.ensures.said in
-    let image = c.operand.ensures ∙ ap (λ image. Some (File (Some image.now))) (sym c.run_request.ensures.image) in
-    let steps = c.amount.ensures ∙ ap (λ n. Some (Amount (Some n))) (sym c.run_request.ensures.steps.0) in
-    let times = c.amount-2.ensures ∙ ap (λ n. Some (Amount (Some n))) (sym c.run_request.ensures.steps.1) in
-    let json = c.flag.ensures ∙ ap (λ b. Some (Used b)) (sym c.run_request.ensures.json) in
+    let image = file_said _ _ _ _ _ _ c.requires.0 refl c.operand.ensures
+    ∙ ap (λ image. Some (File (Some image.now))) (sym c.run_request.ensures.image) in
+    let steps = count_said _ _ _ _ _ _ _ c.requires.1.0 c.its_count.ensures
+    ∙ ap (λ n. Some (Amount (Some n))) (sym c.run_request.ensures.steps.0) in
+    let times = count_said _ _ _ _ _ _ _ c.requires.1.1.0 c.its_count-2.ensures
+    ∙ ap (λ n. Some (Amount (Some n))) (sym c.run_request.ensures.steps.1) in
+    let json = flag_said _ _ _ _ _ c.requires.1.1.1.1.1.1.1.0 c.flag-json.ensures
+    ∙ ap (λ b. Some (Used b)) (sym c.run_request.ensures.json) in
     (refl, (image, (steps, (times, (run.0, (run.1.0, (run.1.1.0, (run.1.1.1.0, (json, run.1.1.1.1)))))))))

@@ -1,39 +1,17 @@
 use Rattle.std.proofs.Common.{refl}
 use Rattle.command_line.specs.CommandLine.{commands}
+use Rattle.command_line.proofs.Read.{file_said, flag_said, operand_there}
 use Rattle.command_line.proofs.reading.dis_plan.Goals as goal
 
-pub operand-requires-clause-fit : goal.operand-requires-clause-fit
+pub operand-requires : goal.operand-requires
 unfolding commands
-operand-requires-clause-fit c = c.requires.0
-
-pub operand-requires-clause-kind : goal.operand-requires-clause-kind
-unfolding commands
-operand-requires-clause-kind c = refl
-
-pub file-requires-clause-fit : goal.file-requires-clause-fit
-unfolding commands
-file-requires-clause-fit c = c.requires.1.0
-
-pub file-requires-clause-kind : goal.file-requires-clause-kind
-unfolding commands
-file-requires-clause-kind c = refl
-
-pub flag-requires-clause-fit : goal.flag-requires-clause-fit
-unfolding commands
-flag-requires-clause-fit c = c.requires.1.1.0
-
-pub flag-requires-clause-kind : goal.flag-requires-clause-kind
-unfolding commands
-flag-requires-clause-kind c = refl
-
-pub flag-requires-2-clause-fit : goal.flag-requires-2-clause-fit
-unfolding commands
-flag-requires-2-clause-fit c = c.requires.1.1.1.0
-
-pub flag-requires-2-clause-kind : goal.flag-requires-2-clause-kind
-unfolding commands
-flag-requires-2-clause-kind c = refl
+operand-requires c = operand_there _ _ _ _ _ c.requires.0 refl
 
 pub returns : goal.returns
 unfolding commands
-returns c = (refl, (c.operand.ensures, (c.file.ensures, (c.flag.ensures, (c.flag-2.ensures, tt)))))
+returns c =
+    let image = file_said _ _ _ _ _ _ c.requires.0 refl c.operand.ensures in
+    let symbols = file_said _ _ _ _ _ _ c.requires.1.0 refl c.text.ensures in
+    let header = flag_said _ _ _ _ _ c.requires.1.1.0 c.flag.ensures in
+    let quiet = flag_said _ _ _ _ _ c.requires.1.1.1.0 c.flag-2.ensures in
+    (refl, (image, (symbols, (header, (quiet, tt)))))

@@ -1,92 +1,25 @@
 use Rattle.std.proofs.Common.{refl}
 use Rattle.command_line.specs.CommandLine.{commands}
+use Rattle.command_line.proofs.Read.{file_said, flag_said, number_said, operand_there}
 use Rattle.command_line.proofs.reading.image_plan.Goals as goal
 
-pub operand-requires-clause-fit : goal.operand-requires-clause-fit
+pub operand-requires : goal.operand-requires
 unfolding commands
-operand-requires-clause-fit c = c.requires.0
+operand-requires c = operand_there _ _ _ _ _ c.requires.0 refl
 
-pub operand-requires-clause-kind : goal.operand-requires-clause-kind
+pub operand-requires-2 : goal.operand-requires-2
 unfolding commands
-operand-requires-clause-kind c = refl
-
-pub operand-requires-2-clause-fit : goal.operand-requires-2-clause-fit
-unfolding commands
-operand-requires-2-clause-fit c = c.requires.1.0
-
-pub operand-requires-2-clause-kind : goal.operand-requires-2-clause-kind
-unfolding commands
-operand-requires-2-clause-kind c = refl
-
-pub number-requires-clause-fit : goal.number-requires-clause-fit
-unfolding commands
-number-requires-clause-fit c = c.requires.1.1.0
-
-pub number-requires-clause-kind : goal.number-requires-clause-kind
-unfolding commands
-number-requires-clause-kind c = refl
-
-pub number-requires-2-clause-fit : goal.number-requires-2-clause-fit
-unfolding commands
-number-requires-2-clause-fit c = c.requires.1.1.1.0
-
-pub number-requires-2-clause-kind : goal.number-requires-2-clause-kind
-unfolding commands
-number-requires-2-clause-kind c = refl
-
-pub number-requires-3-clause-fit : goal.number-requires-3-clause-fit
-unfolding commands
-number-requires-3-clause-fit c = c.requires.1.1.1.1.0
-
-pub number-requires-3-clause-kind : goal.number-requires-3-clause-kind
-unfolding commands
-number-requires-3-clause-kind c = refl
-
-pub number-requires-4-clause-fit : goal.number-requires-4-clause-fit
-unfolding commands
-number-requires-4-clause-fit c = c.requires.1.1.1.1.1.0
-
-pub number-requires-4-clause-kind : goal.number-requires-4-clause-kind
-unfolding commands
-number-requires-4-clause-kind c = refl
-
-pub flag-requires-clause-fit : goal.flag-requires-clause-fit
-unfolding commands
-flag-requires-clause-fit c = c.requires.1.1.1.1.1.1.0
-
-pub flag-requires-clause-kind : goal.flag-requires-clause-kind
-unfolding commands
-flag-requires-clause-kind c = refl
-
-pub flag-requires-2-clause-fit : goal.flag-requires-2-clause-fit
-unfolding commands
-flag-requires-2-clause-fit c = c.requires.1.1.1.1.1.1.1.0
-
-pub flag-requires-2-clause-kind : goal.flag-requires-2-clause-kind
-unfolding commands
-flag-requires-2-clause-kind c = refl
+operand-requires-2 c = operand_there _ _ _ _ _ c.requires.1.0 refl
 
 pub returns : goal.returns
 unfolding commands
-returns c = (
-  refl,
-  (
-    c.operand.ensures,
-    (
-      c.operand-2.ensures,
-      (
-        c.number.ensures,
-        (
-          c.number-2.ensures,
-          (
-            c.number-3.ensures,
-            (
-              c.number-4.ensures,
-              (c.flag.ensures, (c.flag-2.ensures, tt)),
-            ),
-          ),
-        ),
-      ),
-    ),
-  ),
-)
+returns c =
+    let flat = file_said _ _ _ _ _ _ c.requires.0 refl c.operand.ensures in
+    let output = file_said _ _ _ _ _ _ c.requires.1.0 refl c.operand-2.ensures in
+    let first = number_said _ _ _ _ _ c.requires.1.1.0 c.number.ensures in
+    let entry = number_said _ _ _ _ _ c.requires.1.1.1.0 c.number-2.ensures in
+    let pages = number_said _ _ _ _ _ c.requires.1.1.1.1.0 c.number-3.ensures in
+    let mode = number_said _ _ _ _ _ c.requires.1.1.1.1.1.0 c.number-4.ensures in
+    let flat_elf = flag_said _ _ _ _ _ c.requires.1.1.1.1.1.1.0 c.flag.ensures in
+    let quiet = flag_said _ _ _ _ _ c.requires.1.1.1.1.1.1.1.0 c.flag-2.ensures in
+    (refl, (flat, (output, (first, (entry, (pages, (mode, (flat_elf, (quiet, tt)))))))))

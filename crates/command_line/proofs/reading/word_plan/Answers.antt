@@ -1,39 +1,21 @@
 use Rattle.std.proofs.Common.{refl}
 use Rattle.command_line.specs.CommandLine.{commands}
+use Rattle.command_line.proofs.Read.{flag_said, number_said, number_there}
 use Rattle.command_line.proofs.reading.word_plan.Goals as goal
 
-pub amount-requires-clause-fit : goal.amount-requires-clause-fit
+pub its_number-requires : goal.its_number-requires
 unfolding commands
-amount-requires-clause-fit c = c.requires.0
+its_number-requires c = number_there _ _ _ _ c.requires.0 refl
 
-pub amount-requires-clause-kind : goal.amount-requires-clause-kind
+pub its_number-requires-2 : goal.its_number-requires-2
 unfolding commands
-amount-requires-clause-kind c = refl
-
-pub amount-requires-2-clause-fit : goal.amount-requires-2-clause-fit
-unfolding commands
-amount-requires-2-clause-fit c = c.requires.1.0
-
-pub amount-requires-2-clause-kind : goal.amount-requires-2-clause-kind
-unfolding commands
-amount-requires-2-clause-kind c = refl
-
-pub flag-requires-clause-fit : goal.flag-requires-clause-fit
-unfolding commands
-flag-requires-clause-fit c = c.requires.1.1.0
-
-pub flag-requires-clause-kind : goal.flag-requires-clause-kind
-unfolding commands
-flag-requires-clause-kind c = refl
-
-pub flag-requires-2-clause-fit : goal.flag-requires-2-clause-fit
-unfolding commands
-flag-requires-2-clause-fit c = c.requires.1.1.1.0
-
-pub flag-requires-2-clause-kind : goal.flag-requires-2-clause-kind
-unfolding commands
-flag-requires-2-clause-kind c = refl
+its_number-requires-2 c = number_there _ _ _ _ c.requires.1.0 refl
 
 pub returns : goal.returns
 unfolding commands
-returns c = (refl, (c.amount.ensures, (c.amount-2.ensures, (c.flag.ensures, (c.flag-2.ensures, tt)))))
+returns c =
+    let high = number_said _ _ _ _ _ c.requires.0 c.its_number.ensures in
+    let low = number_said _ _ _ _ _ c.requires.1.0 c.its_number-2.ensures in
+    let memory = flag_said _ _ _ _ _ c.requires.1.1.0 c.flag.ensures in
+    let json = flag_said _ _ _ _ _ c.requires.1.1.1.0 c.flag-2.ensures in
+    (refl, (high, (low, (memory, (json, tt)))))

@@ -6,7 +6,8 @@ use Rattle.commands.proofs.running.run_first.Goals as goal
 
 pub returns-clause-ok : goal.returns-clause-ok
 returns-clause-ok g c =
-    on_ok c.run_whole.result _ (λ done. Runs first_run None false false done.0 (g.O.Write.contents c.args.output) (g.O.Write.contents done.1))
+    on_ok c.run_whole.result _
+    (λ done. Runs first_run None false false done.0 (g.O.Write.contents c.args.output) (g.O.Write.contents done.1))
     (λ done. ran_first _ _ _ done.0 _ _ (built _ _ c.in_ok-image.image c.in_ok-image.ensures) c.new.ensures c.new-2.ensures.items)
     c.run_whole.ensures.ok
 

@@ -14,7 +14,8 @@ pub returns-in-Err-Output-clause-err : goal.returns-in-Err-Output-clause-err
 returns-in-Err-Output-clause-err g c =
     let stopped = c.in-Err-Output in
     let cut = rw (c.new-lines.ensures.held, c.in_ok-machine.ensures.ok, c.deref.ensures.value, stopped.field-0-is) at stopped.ensures.cut in
-    let past = past_cut (says_by c.args.run.now.request.json c.args.run.now.table) c.args.trace.skipped _ cut.done cut.last cut.rest _ cut.order in
+    let past = past_cut (says_by c.args.run.now.request.json c.args.run.now.table) c.args.trace.skipped _ cut.done cut.last cut.rest _
+    cut.order in
     unsent tt
     (closed_cut c.close_trace-in-Err-Output.result _ _ _ c.args.trace.name.now _ _ past.0 _ _ c.in_ok-make_trace.ensures.files
     c.in_ok-make_trace.ensures.empty cut.lines past.1 (rw c.into_inner-in-Err-Output.ensures at c.close_trace-in-Err-Output.ensures.ok)

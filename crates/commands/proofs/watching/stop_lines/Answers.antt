@@ -20,6 +20,7 @@ returns-in-Ok-clause-told c = λ _.
           → rule ≡ line_text t (get_or policy.lines.items refused.rule 1))
           c.deref.ensures.value by_number,
       c.in-Ok.ensures
-          ∙ ap (λ n. refused_by c.args.run.now.request.json c.args.run.now.table n rule refused (c.args.breach.number - 1) c.args.machine.now)
+          ∙ ap
+          (λ n. refused_by c.args.run.now.request.json c.args.run.now.table n rule refused (c.args.breach.number - 1) c.args.machine.now)
           (c.rule_line-rule.ensures.number ∙ number),
     )

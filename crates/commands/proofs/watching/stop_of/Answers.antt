@@ -11,7 +11,7 @@ use Rattle.commands.proofs.Policies.{in_force-length, member-inside}
 use Rattle.commands.proofs.watching.stop_of.Goals as goal
 
 pub stop_lines-requires-clause-rule : goal.stop_lines-requires-clause-rule
-stop_lines-requires-clause-rule c =
+stop_lines-requires-clause-rule g c =
     let policy = c.args.rules.now.policy in
     let rules = c.deref.result.now in
     let s = c.in_ok-machine.machine in
@@ -25,7 +25,7 @@ stop_lines-requires-clause-rule c =
     subst (λ n. x.refused.rule < n) whole refused.first.inside
 
 pub stop_lines-requires-clause-member : goal.stop_lines-requires-clause-member
-stop_lines-requires-clause-member c =
+stop_lines-requires-clause-member g c =
     let rules = c.deref.result.now in
     let s = c.in_ok-machine.machine in
     let x = c.in-Ok-Some.breach in

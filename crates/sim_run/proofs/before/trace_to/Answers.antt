@@ -34,10 +34,10 @@ returns-in-Ok-clause-lines g c =
     let k = c.args.number - 1 in
     let same = first_scheduled c.first-first.result c.args.schedule c.args.input.now k s c.first-first.ensures.value in
     lines-then (up_to_halt (first_steps c.args.schedule c.args.input.now k) s)
-    (byte_before c.args.schedule c.args.input.now c.args.number) s (says_of c.args.form) c.args.skipped _ _
+    (byte_before c.args.schedule c.args.input.now c.args.number) s (says_of c.args.form) c.args.form.skipped _ _
     (subst
     (λ es. Appends (g.T.Sink.held c.args.trace.now) (g.T.Sink.held c.run_traced.new.trace)
-    (lines_past (says_of c.args.form) c.args.skipped 0 es s)) same
+    (lines_past (says_of c.args.form) c.args.form.skipped 0 es s)) same
     c.in-Ok.ensures.lines)
 
 pub returns-in-Ok-clause-end : goal.returns-in-Ok-clause-end
@@ -60,9 +60,9 @@ returns-in-Err-clause-cut g c =
     let k = c.args.number - 1 in
     let same = first_scheduled c.first-first.result c.args.schedule c.args.input.now k s c.first-first.ensures.value in
     traced-then (up_to_halt (first_steps c.args.schedule c.args.input.now k) s)
-    (byte_before c.args.schedule c.args.input.now c.args.number) s (says_of c.args.form) c.args.skipped c.in-Err.fault
+    (byte_before c.args.schedule c.args.input.now c.args.number) s (says_of c.args.form) c.args.form.skipped c.in-Err.fault
     c.run_traced.new.machine _ _ _ _
     (subst
-    (λ es. WasCut (says_of c.args.form) c.in-Err.fault c.args.skipped 0 es s c.run_traced.new.machine (g.W.Sink.held c.args.sink.now)
+    (λ es. WasCut (says_of c.args.form) c.in-Err.fault c.args.form.skipped 0 es s c.run_traced.new.machine (g.W.Sink.held c.args.sink.now)
     (g.W.Sink.held c.run_traced.new.sink) (g.T.Sink.held c.args.trace.now) (g.T.Sink.held c.run_traced.new.trace))
     same c.in-Err.ensures.cut)

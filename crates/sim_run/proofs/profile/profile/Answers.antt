@@ -9,7 +9,7 @@ use Rattle.sim_run.proofs.profile.profile.Goals as goal
 pub returns-in-Done : goal.returns-in-Done
 returns-in-Done g c =
     let s = c.args.machine.now in
-    let walk = c.walk_whole-how in
+    let walk = c.walk_told-how in
     let events = scheduled c.args.schedule c.args.input.now s in
     let all : (walk.result.steps ≡ steps_in events)
     × CountsMore c.args.symbols.now (fetches events s) c.new.result walk.new.watch.tally =
@@ -21,8 +21,8 @@ returns-in-Done g c =
 
 pub unreachable-requires : goal.unreachable-requires
 unreachable-requires g c =
-    let met = rw c.in-Stopped.is at c.walk_whole-how.ensures.whole in
-    let last = eqb-true c.walk_whole-how.new.watch.number 18446744073709551615 met.2 in
+    let met = rw c.in-Stopped.is at c.walk_told-how.ensures.whole in
+    let last = eqb-true c.walk_told-how.new.watch.number 18446744073709551615 met.2 in
     let counted = met.0.met.told.1 in
     let steps = met.0.met.steps in
     let few = met.0.few in

@@ -10,7 +10,7 @@ pub returns-in-Some : goal.returns-in-Some
 returns-in-Some g c =
     let s = c.args.machine.now in
     let number = c.in-Some.number in
-    let same = first_scheduled c.first.result c.args.schedule c.args.input.now (number - 1) s c.first.ensures.value in
+    let same = first_scheduled c.first-first.result c.args.schedule c.args.input.now (number - 1) s c.first-first.ensures.value in
     let before = up_to_halt (first_steps c.args.schedule c.args.input.now (number - 1)) s in
     rw c.in-Some.is
     (subst (λ addresses. IfOk c.profile-in-Some.result (λ text. IsProfile c.args.symbols.now addresses (string_bytes text)))

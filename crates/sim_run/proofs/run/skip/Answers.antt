@@ -10,26 +10,26 @@ pub returns-clause-state : goal.returns-clause-state
 returns-clause-state g c =
     let s = c.args.machine.now in
     let same = first_scheduled c.first-first.result c.args.schedule c.args.input.now c.args.count s c.first-first.ensures.value in
-    on_ok_weaker c.run_counted.result (λ e. e ∙ ap (λ es. run_after es s) same) c.run_counted.ensures.state
+    on_ok_weaker c.run_told.result (λ e. e ∙ ap (λ es. run_after es s) same) c.run_told.ensures.state
 
 pub returns-clause-bytes : goal.returns-clause-bytes
 returns-clause-bytes g c =
     let s = c.args.machine.now in
     let same = first_scheduled c.first-first.result c.args.schedule c.args.input.now c.args.count s c.first-first.ensures.value in
-    on_ok_weaker c.run_counted.result
-    (subst (λ es. Appends (g.W.Sink.held c.args.sink.now) (g.W.Sink.held c.run_counted.new.sink) (run_sent es s)) same)
-    c.run_counted.ensures.bytes
+    on_ok_weaker c.run_told.result
+    (subst (λ es. Appends (g.W.Sink.held c.args.sink.now) (g.W.Sink.held c.run_told.new.sink) (run_sent es s)) same)
+    c.run_told.ensures.bytes
 
 pub returns-clause-steps : goal.returns-clause-steps
 returns-clause-steps g c =
     let s = c.args.machine.now in
     let same = first_scheduled c.first-first.result c.args.schedule c.args.input.now c.args.count s c.first-first.ensures.value in
-    IfOk-weaker c.run_counted.result _ _ (λ ran e. e ∙ ap steps_in same) c.run_counted.ensures.steps
+    IfOk-weaker c.run_told.result _ _ (λ ran e. e ∙ ap steps_in same) c.run_told.ensures.steps
 
 pub returns-clause-cut : goal.returns-clause-cut
 returns-clause-cut g c =
     let s = c.args.machine.now in
     let same = first_scheduled c.first-first.result c.args.schedule c.args.input.now c.args.count s c.first-first.ensures.value in
-    on_err_weaker c.run_counted.result
-    (subst (λ es. IsCutShort es s c.run_counted.new.machine (g.W.Sink.held c.args.sink.now) (g.W.Sink.held c.run_counted.new.sink)) same)
-    c.run_counted.ensures.cut
+    on_err_weaker c.run_told.result
+    (subst (λ es. IsCutShort es s c.run_told.new.machine (g.W.Sink.held c.args.sink.now) (g.W.Sink.held c.run_told.new.sink)) same)
+    c.run_told.ensures.cut

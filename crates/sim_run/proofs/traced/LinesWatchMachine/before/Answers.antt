@@ -6,7 +6,7 @@ pub returns-clause-ok : goal.returns-clause-ok
 returns-clause-ok g c = λ on.
     let few = not_last c.args.self.now.number c.requires.ready.2 on in
     on_written c.write_line.result _ _ c.write_line.ensures.count (c.write_line.ensures.ok few)
-    (λ wrote same. (refl, refl, refl, refl, few, wrote, same))
+    (λ wrote same. (refl, refl, refl, few, wrote, same))
 
 pub returns-clause-err : goal.returns-clause-err
 returns-clause-err g c = λ on.

@@ -8,10 +8,10 @@ pub returns-clause-byte : goal.returns-clause-byte
 returns-clause-byte g c = λ b s there.
     let w = c.args.self.now in
     let same : w.number ≡ w.number + 0 = omega arith in
-    (refl, refl, refl, wrote_skipped (says_of w.form) w.skipped w.number (Byte b ∷ []) s _ _ w.number (omega arith) same)
+    (refl, refl, wrote_skipped (says_of w.form) w.form.skipped w.number (Byte b ∷ []) s _ _ w.number (omega arith) same)
 
 pub returns-clause-tick : goal.returns-clause-tick
 returns-clause-tick g c = λ s there.
     let w = c.args.self.now in
     let same : w.number ≡ w.number + 0 = omega arith in
-    (refl, refl, refl, wrote_skipped (says_of w.form) w.skipped w.number (Tick ∷ []) s _ _ w.number (omega arith) same)
+    (refl, refl, wrote_skipped (says_of w.form) w.form.skipped w.number (Tick ∷ []) s _ _ w.number (omega arith) same)
