@@ -271,9 +271,10 @@ class Monitored(unittest.TestCase):
         """What the bridge answers by itself; test_origins.py has the cases of the other commands."""
         machine = Machine(text=COUNT)
         machine.step(3)
-        self.assertEqual(self.said(machine, "ago", "step 1", "go", "stops", "stop", "stop never", "", "origin ca0", "help reg", "help B2",
-                                   "help me"),
-                         ["0\n", *["GDB's own commands move the machine\n"] * 2, "", "stop takes unhandled, trap, never\n", "", "fault B1\n",
+        self.assertEqual(self.said(machine, "ago", "step 1", "go", "back to stop", "stops", "stop", "stop never", "", "origin ca0",
+                                   "help reg", "help B2", "help me"),
+                         ["0\n", *3 * ["GDB's own commands move the machine\n"], "", "stop takes unhandled, trap, never\n", "",
+                          "fault B1\n",
                           "opening state: ca0 v:0 a:0000000000000003 b:0000000000000000 t:10000000000000000 p:00000 f:0 o:3ffff\n",
                           "reg R                   a general or special register as a capability\n",
                           "B1, B2, B3              refused: no such command; its operands; a byte outside RAM\n", "fault B2\n"])

@@ -275,10 +275,80 @@ def back_and_forth():
                   "trap 10; step 1; back 1; trap 10; origin mtcc; step 5; back 2; origin pcc; ago")
 
 
+# ---- back to a stop
+
+# Calls without an end; the handler at 0x80000018 goes on after the call.
+CALLS = ("auipc a0, 0x0; addi a0, a0, 24; csrrw zero, mtvec, a0; loop: addi a1, a1, 1; ecall; j loop; csrrs a2, mepc, zero; "
+         "addi a2, a2, 4; csrrw zero, mepc, a2; mret")
+TO_STOP = "back to stop; ago"
+
+
+def times(count, command=TO_STOP):
+    """A command so many times."""
+    return "; ".join(count * [command])
+
+
+def to_stops():
+    yield session("Without a stop, without an event, and where none holds at a place before", FIRST,
+                  f"back to stop; stop at 0x80000000; {TO_STOP}; step 2; stop off; {TO_STOP}; stop at 0x80000008; {TO_STOP}; step 1; "
+                  f"{TO_STOP}; step 1; {TO_STOP}; {TO_STOP}; stop at 0x10; {TO_STOP}; stops")
+    yield session("The opening state is a place too", FIRST, f"stop at 0x80000000; step 1; {TO_STOP}; step 4; {TO_STOP}; {TO_STOP}")
+    yield session("One place after the other, up to the first", LOOP,
+                  f"step 13; stop at 0x80000004; {times(6)}; reg a1; step 13; stops; {TO_STOP}; reg a1")
+    yield session("Where a stop holds now is no place before", LOOP, f"stop at 0x80000008; go; go; go; ago; {times(3)}; go; {times(3)}")
+    yield session("More stops, the last of them wherever it is", LOOP,
+                  f"stop at 0x8000000c; stop at 0x80000004; stop at 0x80000010; step 16; {times(9)}; go; {TO_STOP}")
+    yield session("The places at which `go` stopped, in the other order", CALLS,
+                  f"stop at 0x80000014; stop at 0x80000018; {times(7, 'go; ago')}; {times(7)}")
+    yield session("Before a trap", CALLS, f"stop trap; step 30; {times(3)}; reg pcc; step 1; reg pcc; {times(4)}; go; ago")
+    yield session("Before a trap and at an address, which is where it traps too", CALLS,
+                  f"stop trap; stop at 0x80000010; stop at 0x80000024; step 20; {times(5)}")
+    yield session("After events were taken back, and after others in their place", LOOP,
+                  f"stop at 0x80000008; step 12; back 5; {TO_STOP}; step 1; back 1; {TO_STOP}; step 4; tick 1; back 2; {TO_STOP}; back 1; "
+                  f"{TO_STOP}")
+    yield session("Ticks and bytes beside the steps come before a place, and none of them is one", RECEIVES,
+                  f"stop at 0x80000004; step 1; tick 2; byte 0x41; tick 1; {TO_STOP}; step 1; {TO_STOP}; {TO_STOP}; step 2; reg a0; "
+                  f"byte 0x42; tick 3; {TO_STOP}")
+    yield session("Stops hold nowhere after the halt, whose steps change nothing", FIRST,
+                  f"stop at 0x80000014; step 5; {TO_STOP}; step 4; {TO_STOP}; stop at 0x80000010; {TO_STOP}; go; {TO_STOP}; step 9; "
+                  f"stop trap; {TO_STOP}; {TO_STOP}")
+    yield session("`until`, `trap`, `go` and `changed` are gone back over as steps are", CALLS,
+                  f"until 0x80000010 100; trap 9; changed mepcc 9; go 4; stop at 0x8000000c; ago; {times(2)}; changed a1 9; {TO_STOP}")
+    yield session("A refused one changes nothing", ROUND,
+                  f"step 7; stop at 0x80000020; back to stop; ago; origin ca2; step 9; back to stop; back to stop; reg ca3; ago")
+
+
+def to_stops_on_schedules():
+    for address in range(0x8000_0000, 0x8000_0020, 4):
+        yield session(f"On a schedule to {address:#x}: after the byte that comes before the step", KEEPS,
+                      f"stop at {address:#x}; step 11; {TO_STOP}; reg a0; {TO_STOP}; go 9; ago; {TO_STOP}", BY_SECONDS)
+    yield session("A byte before each step and a tick after each", KEEPS,
+                  f"stop at 0x80000010; stop at 0x80000014; step 12; ago; {TO_STOP}; {TO_STOP}; step 1; ago; {TO_STOP}; {TO_STOP}",
+                  (1, 1, b"ABCDEFGHIJ"))
+    for count in range(1, 5):
+        yield session(f"After `back {count}`, which parts a step from its tick and from the byte before it", KEEPS,
+                      f"stop at 0x80000010; stop at 0x80000014; step 7; back {count}; {TO_STOP}; {TO_STOP}; step 1; ago",
+                      (1, 1, b"ABCDEFGHIJ"))
+    yield session("Between a step and its tick", KEEPS,
+                  f"stop at 0x80000010; changed a0 100; ago; {TO_STOP}; go; changed a0 100; step 1; ago; stop at 0x80000014; {TO_STOP}; "
+                  f"{TO_STOP}", (1, 1, b"AB"))
+    yield session("Where `go` stopped after a byte", KEEPS,
+                  f"stop at 0x80000010; go; ago; {TO_STOP}; go; ago; {TO_STOP}; back 1; {TO_STOP}; step 1; {TO_STOP}",
+                  (1, 0, b"ABCDEFGHIJ"))
+    yield session("Before an interrupt that a tick asks for", WAITS, f"stop trap; trap 1000; ago; {TO_STOP}; step 4; ago; {times(3)}; "
+                  "step 1; reg pcc", (1000, 5, b""))
+    yield session("The halt", FIRST, f"stop at 0x80000010; stop at 0x80000014; step 9; ago; {TO_STOP}; {TO_STOP}; go; ago; {TO_STOP}",
+                  (2, 1, b"A"))
+    yield session("Over all of a schedule, and over ticks and bytes beside it", KEEPS,
+                  f"stop at 0x8000000c; step 4; tick 1; byte 0x5a; step 30; tick 2; {TO_STOP}; step 2; reg a0; ago", BY_SECONDS)
+
+
 # ---- refusals
 
 REFUSED = [
     "ago 1", "ago x", "back", "back 1 1", "back x", "back -1", "back -0", "back 00", "back a0", "back 18446744073709551616",
+    "back to", "back stop", "back to 1", "back to stops", "back To stop", "back to Stop", "back to trap", "back stop to",
+    "back to stop 1", "back 1 stop", "back 1 to stop", "back to stop to", "back to to stop", "back tostop",
     *(f"{name}{rest}" for name in ("origin", "lost") for rest in (
         "", " a0 a1", " a0 1", " 0x80000008", " 0x80000001", " 0x8000000f", " 8", " x", " x32", " A0", " PCC", " mstatus", " mtvec",
         " .text", " 0x10000000000000000", " -16", " 0xffffffffffffffff", " pc", " c", " (ca0)")),
@@ -384,12 +454,15 @@ def named():
     yield labelled("Numbers of traps and of system registers have no labels", HANDLED,
                    "step 4; origin pcc; origin mepcc; lost pcc; step 6; origin pcc; origin mepcc; lost mepcc; origin a1; origin mtcc",
                    TABLE)
+    yield labelled("Back to a stop at a label", LOOP, "stop at loop; step 9; back to stop; back to stop; stop at loop+4; back to stop",
+                   TABLE | {"loop": RAM + 4})
     yield labelled("On a schedule", KEEPS, "step 9; origin ca4; lost data; back 3; until loop 9; lost data; ago; stop at start; stops",
                    TABLE | {"loop": RAM + 16}, BY_SECONDS)
 
 
 def conversations():
-    for part in (chains, false, memory, specials, traps, jumps, back_and_forth, refusals, schedules, named):
+    for part in (chains, false, memory, specials, traps, jumps, back_and_forth, to_stops, refusals, schedules, to_stops_on_schedules,
+                 named):
         yield from part()
 
 

@@ -15,7 +15,7 @@ until ADDR [N]
 trap [N]
 go [N]
 changed R|ADDR N
-back N
+back N|to stop
 ago
 origin R|ADDR
 lost R|ADDR
@@ -41,7 +41,7 @@ quit
 # The example of each that `help` shows beside its operands, where that isn't its name.
 EXAMPLES = {
     "step": "step 100", "tick": "tick 1", "byte": "byte 0x41", "until": "until 0x80000010", "go": "go 5000000",
-    "changed": "changed ca0 1000", "back": "back 1", "origin": "origin ca0", "lost": "lost ca0", "stop": "stop at 0x80000010",
+    "changed": "changed ca0 1000", "back": "back to stop", "origin": "origin ca0", "lost": "lost ca0", "stop": "stop at 0x80000010",
     "reg": "reg ca0", "mem": "mem 0x80000000 64", "dis": "dis 0x80000000 4", "why": "why json", "reach": "reach doors",
     "may": "may store 0x80000000 8", "help": "help stop",
 }
@@ -49,7 +49,7 @@ EXAMPLES = {
 # What the codes of refusals mean.
 CODES = {
     "B1": "B1 no such command, or no word on the line",
-    "B2": "B2 operands of another count, form or range, no such label or past, too much to search, or a line too long or not ASCII",
+    "B2": "B2 operands of another count, form or range; no such label, stop or past; too much to search; a line too long or not ASCII",
     "B3": "B3 some byte to be shown lies outside RAM",
     "B4": "B4 no memory for the reply",
 }

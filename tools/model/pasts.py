@@ -7,7 +7,7 @@ from model import origins, recorded
 from model.memory import WORD
 from model.names import REGISTERS, SCRS
 from model.origins import GRANULE, REGISTER, SPECIAL, Event, held
-from model.sessions import Refused, Session, address, number
+from model.sessions import Optional, Refused, Session, address, number, one_of
 from model.words import ONES
 
 
@@ -23,11 +23,16 @@ def place_of(session, word):
     return GRANULE, found
 
 
+def distance(session, word):
+    """Reads a number of events, or the first word of `to stop`."""
+    return word if word == "to" else number(1, ONES)(session, word)
+
+
 class Past(Session):
     """A session of the machine of a text."""
 
-    OPERANDS = Session.OPERANDS | {"ago": (), "back": (number(1, ONES),), "changed": (place_of, Session.COUNT), "origin": (place_of,),
-                                   "lost": (place_of,)}
+    OPERANDS = Session.OPERANDS | {"ago": (), "back": (distance, Optional(one_of("stop"), lambda session: None)),
+                                   "changed": (place_of, Session.COUNT), "origin": (place_of,), "lost": (place_of,)}
 
     def begin(self):
         super().begin()
@@ -54,14 +59,31 @@ class Past(Session):
     def on_ago(self):
         return f"events {self.count}\n"
 
-    def on_back(self, count):
-        if count > self.count:
+    def on_back(self, count, stop):
+        if (count == "to") != (stop == "stop") or not stop and count > self.count:
             raise Refused("B2")
-        given, before = self.given[:self.count - count], self.count
+        before = self.count
+        if stop:
+            self.to_stop()
+        else:
+            self.stand_after(self.given[:before - count])
+        return self.told(before, len(self.machine.devices.sent))
+
+    def stand_after(self, given):
+        """To where events lead from the opening state."""
         self.begin()
         for event in given:
             self.give(*event)
-        return self.told(before, len(self.machine.devices.sent))
+
+    def to_stop(self):
+        """Takes one event after the other back, up to a step before which a stop holds; all come again where there is none."""
+        given = self.given
+        while self.count:
+            self.stand_after(given[:self.count - 1])
+            if given[self.count][0] == "step" and not self.is_halted() and self.is_at(self.stops):
+                return
+        self.stand_after(given)
+        raise Refused("B2")
 
     def on_changed(self, place, most):
         """Events of the session's own steps, up to the halt or to one after which the place holds another value."""

@@ -10,6 +10,8 @@ use Rattle.symbols.specs.Symbols.{Symbol}
 use Rattle.debug_commands.specs.Address.{address_at}
 use Rattle.debug_commands.specs.declared.fault.DebugFault.{DebugFault}
 use Rattle.debug_commands.specs.declared.fault.DebugFault.TheVariants.{B1, B2, B3, B4}
+use Rattle.debug_commands.specs.declared.command.Back.{Back as Distance}
+use Rattle.debug_commands.specs.declared.command.Back.TheVariants.{By, ToStop}
 use Rattle.debug_commands.specs.declared.command.Command.{Command}
 use Rattle.debug_commands.specs.declared.command.Command.TheVariants.{Gives, Shows, Recalls, Back, Sets, Quit}
 use Rattle.debug_commands.specs.declared.command.Events.TheVariants.{Steps, Ticks, Byte, Until, Go, Changed}
@@ -111,6 +113,17 @@ holder_and_number symbols high (r ∷ []) = Err B2
 holder_and_number symbols high (r ∷ n ∷ []) = or_B2 (both (holder_in symbols r) (read_number (number_between 1 high n)))
 holder_and_number symbols high (r ∷ n ∷ m ∷ rest) = Err B2
 
+-- how far a command goes back: by so many events, or `to stop`
+abbrev pub distance_of : Option ℕ → Result Distance DebugFault
+distance_of (Some n) = Ok (By n)
+distance_of None = Err B2
+
+abbrev pub distance_back : ℕ → List (List ℕ) → Result Distance DebugFault
+distance_back high [] = Err B2
+distance_back high (n ∷ []) = distance_of (read_number (number_between 1 high n))
+distance_back high (a ∷ b ∷ []) = if is_word a (codes "to") && is_word b (codes "stop") then Ok ToStop else Err B2
+distance_back high (a ∷ b ∷ c ∷ rest) = Err B2
+
 -- how far an answer is to hold: no words, or `through doors`
 abbrev pub horizon_of : List (List ℕ) → Result Horizon DebugFault
 horizon_of [] = Ok Stretch
@@ -146,8 +159,9 @@ some_bytes_and_horizon symbols high words = all_or high (horizon_of words) (byte
 
 -- how operands are written: none; a number of these limits, and one that may be left out and then is this one; an address that is such a
 -- multiple and a number from 1 on, which may be left out too; an address; a register's name; what holds a capability, alone and with a
--- number from 1 on. And the command of what they say. Or a word of a table of its own, and then that word's operands. A question's
--- operands, nothing, a number, an address and a number, or these two or nothing, end with how far its answer is to hold.
+-- number from 1 on; how far a command goes back, by a number from 1 on. And the command of what they say. Or a word of a table of its own,
+-- and then that word's operands. A question's operands, nothing, a number, an address and a number, or these two or nothing, end with how
+-- far its answer is to hold.
 pub data Operands : Type 0 where
   nothing : Command → Operands
   number : ℕ → ℕ → (ℕ → Command) → Operands
@@ -157,6 +171,7 @@ pub data Operands : Type 0 where
   a_register : (View → Command) → Operands
   a_holder : (Place → Command) → Operands
   a_holder_and_number : ℕ → (Place → ℕ → Command) → Operands
+  a_distance_back : ℕ → (Distance → Command) → Operands
   a_verb : (List Symbol → List (List ℕ) → Result Command DebugFault) → Operands
   question : Question → Operands
   question_of_number : ℕ → ℕ → (ℕ → Question) → Operands
@@ -197,6 +212,7 @@ said_by symbols (an_address make) words = made make (one_address symbols words)
 said_by symbols (a_register make) words = made make (one_register words)
 said_by symbols (a_holder make) words = made make (one_holder symbols words)
 said_by symbols (a_holder_and_number high make) words = made (λ p. make p.0 p.1) (holder_and_number symbols high words)
+said_by symbols (a_distance_back high make) words = made make (distance_back high words)
 said_by symbols (a_verb read) words = read symbols words
 said_by symbols (question may) words = made (λ horizon. Shows (view.May may horizon)) (horizon_of words)
 said_by symbols (question_of_number low high make) words =
@@ -311,7 +327,7 @@ table help =
     ∷ line (codes "go") (codes " [N]") (codes "go 5000000") (number_if 1000000000 1 1000000000000 (λ n. Gives (Go n)))
     ∷ line (codes "changed") (codes " R|ADDR N") (codes "changed ca0 1000")
     (a_holder_and_number 1000000 (λ place n. Gives (Changed place n)))
-    ∷ line (codes "back") (codes " N") (codes "back 1") (number 1 (2 ^ 64 - 1) (λ n. Back n))
+    ∷ line (codes "back") (codes " N|to stop") (codes "back to stop") (a_distance_back (2 ^ 64 - 1) (λ distance. Back distance))
     ∷ line (codes "ago") [] (codes "ago") (nothing (Recalls Ago))
     ∷ line (codes "origin") (codes " R|ADDR") (codes "origin ca0") (a_holder (λ place. Recalls (Origin place)))
     ∷ line (codes "lost") (codes " R|ADDR") (codes "lost ca0") (a_holder (λ place. Recalls (Lost place)))

@@ -36,6 +36,6 @@ abbrev pub IsWithinLimits : Command → Type 0
 IsWithinLimits (Gives events) = AreWithinLimits events
 IsWithinLimits (Shows view) = IsShownWithinLimits view
 IsWithinLimits (Recalls recall) = IsRecalledWithinLimits recall
-IsWithinLimits (Back n) = ⊤
+IsWithinLimits (Back distance) = ⊤
 IsWithinLimits (Sets stops) = ⊤
 IsWithinLimits Quit = ⊤

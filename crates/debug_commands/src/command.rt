@@ -112,6 +112,15 @@ pub enum Recall {
     Lost(Place),
 }
 
+/// How far a command goes back.
+#[derive(Clone, Copy)]
+pub enum Back {
+    /// By so many events, 1 or more.
+    By(u64),
+    /// To the last place before at which a stop of the session holds.
+    ToStop,
+}
+
 /// A command of a session. The ranges are those of a command that [`command_of`](crate::command_of) reads.
 #[derive(Clone, Copy)]
 pub enum Command {
@@ -121,8 +130,8 @@ pub enum Command {
     Shows(View),
     /// It shows what came before, and changes nothing.
     Recalls(Recall),
-    /// It takes back so many events, 1 or more.
-    Back(u64),
+    /// It takes the last events back.
+    Back(Back),
     /// It sets the stops, and changes nothing of the machine.
     Sets(SetStops),
     /// The end.

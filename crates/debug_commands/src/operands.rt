@@ -9,7 +9,7 @@ ghost use Rattle.asm_lines.specs.Words.{words_of};
 ghost use Rattle.origins.specs.Places.{IsHolder};
 
 use crate::address::address_at;
-use crate::command::View;
+use crate::command::{Back, View};
 use crate::fault::DebugFault;
 use asm_lines::{number_between, split_word};
 use asm_names::{register_named, scr_named};
@@ -201,6 +201,25 @@ pub(crate) fn holder_and_number(
         (Some(place), Some(count)) => Ok((place, count)),
         _ => Err(DebugFault::B2),
     }
+}
+
+/// How far a command goes back: the only operand, a number of 1 to `high`, or `to stop`, or else it is B2.
+pub(crate) fn distance_back(operands: &[u8], high: u64) -> Result<Back, DebugFault>
+    ensures { result ≡ spec.distance_back high (words_of operands.now) }
+{
+    let Some((first, rest)) = split_word(operands) else {
+        return Err(DebugFault::B2);
+    };
+    let Some((second, rest)) = split_word(rest) else {
+        return match number_between(first, 1, high) {
+            Some(number) => Ok(Back::By(number)),
+            None => Err(DebugFault::B2),
+        };
+    };
+    if split_word(rest).is_some() || first != b"to".as_slice() || second != b"stop".as_slice() {
+        return Err(DebugFault::B2);
+    }
+    Ok(Back::ToStop)
 }
 
 /// How far an answer is to hold: what follows a question's own operands is nothing, or `through doors`, or else it is B2.

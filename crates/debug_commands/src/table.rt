@@ -9,8 +9,9 @@ ghost use Rattle.debug_commands.specs.Limits.{IsWithinLimits};
 use crate::command::{Command, Events, Recall, SetStops, Stop, View};
 use crate::fault::DebugFault;
 use crate::operands::{
-    address_and_number_or, bytes_and_horizon, holder_and_number, horizon, number_and_horizon,
-    number_or, one_address, one_holder, one_number, one_register, some_bytes_and_horizon,
+    address_and_number_or, bytes_and_horizon, distance_back, holder_and_number, horizon,
+    number_and_horizon, number_or, one_address, one_holder, one_number, one_register,
+    some_bytes_and_horizon,
 };
 use asm_lines::{Class, run_length, split_word};
 use reach::{Horizon, May};
@@ -59,7 +60,7 @@ macro_rules! of_events {
             "go" (" [N]", "go 5000000") (number_if STEPS_UNASKED 1 MOST_GONE) n => Command::Gives(Events::Go { most: n });
             "changed" (" R|ADDR N", "changed ca0 1000") (holder_and_number MOST_EVENTS)
                 p => Command::Gives(Events::Changed { place: p.0, most: p.1 });
-            "back" (" N", "back 1") (number 1 MOST_ASKED) n => Command::Back(n);
+            "back" (" N|to stop", "back to stop") (distance_back MOST_ASKED) it => Command::Back(it);
             "ago" ("", "ago") (nothing) n => Command::Recalls(Recall::Ago);
             "origin" (" R|ADDR", "origin ca0") (holder) p => Command::Recalls(Recall::Origin(p));
             "lost" (" R|ADDR", "lost ca0") (holder) p => Command::Recalls(Recall::Lost(p));
@@ -198,6 +199,10 @@ macro_rules! made_of {
     }};
     ((holder_and_number $high:tt) $said:ident $made:expr, $symbols:ident $operands:ident) => {{
         let $said = holder_and_number($symbols, $operands, $high)?;
+        Ok($made)
+    }};
+    ((distance_back $high:tt) $said:ident $made:expr, $symbols:ident $operands:ident) => {{
+        let $said = distance_back($operands, $high)?;
         Ok($made)
     }};
     ((verb $read:ident) $said:ident $made:expr, $symbols:ident $operands:ident) => { $read($symbols, $operands) };

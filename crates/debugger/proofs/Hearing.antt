@@ -13,7 +13,7 @@ use Rattle.image.specs.BeginningLaws.{beginning_after}
 use Rattle.debugger.specs.declared.fault.TalkFault.{TalkFault}
 use Rattle.debugger.specs.declared.fault.TalkFault.TheVariants.{Read, Write, Memory}
 use Rattle.debug_commands.specs.Command.{command_of}
-use Rattle.debugger.specs.Reply.{state_after, allowed, state_by}
+use Rattle.debugger.specs.Reply.{admitted, state_after, allowed, state_by}
 use Rattle.debugger.specs.SessionState.{SessionState}
 use Rattle.debugger.specs.Standing.{Standing, standing_with}
 use Rattle.debugger.specs.Conversation.{reply_by, ends_by, reply_to, is_last, conversation, state_after_conversation, unread}
@@ -30,13 +30,13 @@ module _ (line part : List ℕ) (kept : line ≡ take 256 part) (s : SessionStat
   command = ap (command_of s.symbols) kept ∙ kept_command s.symbols part
 
   pub same_reply : reply_to line s ≡ reply_to part s
-  same_reply = ap (λ r. reply_by (allowed r s.past s.machine) s) command
+  same_reply = ap (λ r. reply_by (admitted (allowed r s.past s.machine) s) s) command
 
   pub same_last : is_last line s ≡ is_last part s
-  same_last = ap (λ r. ends_by (allowed r s.past s.machine) s) command
+  same_last = ap (λ r. ends_by (admitted (allowed r s.past s.machine) s) s) command
 
   pub same_state : state_after line s ≡ state_after part s
-  same_state = ap (λ r. state_by (allowed r s.past s.machine) s) command
+  same_state = ap (λ r. state_by (admitted (allowed r s.past s.machine) s) s) command
 
 -- ---- the beginning
 

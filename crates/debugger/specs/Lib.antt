@@ -1,6 +1,7 @@
 -- What to read
 pub mod SessionState
 pub mod Stepping
+pub mod Behind
 pub mod Reaching
 pub mod Reply
 pub mod Conversation

@@ -1,8 +1,9 @@
 -- The replies of a session, and the state after a command, as functions of the state and the command.
 use Rattle.std.specs.Prelude.{ℕ, zero, suc, ◌+◌, ◌-◌, ◌*◌, Bool, true, false, not, ◌&&◌, ◌==◌, nat_lt, if◌then◌else◌, List, [], ◌∷◌, ◌++◌}
 use Rattle.std.specs.Prelude.{length, take}
-use Rattle.std.specs.Prelude.{drop, replicate, Option, Some, None, option_map, Result, Ok, Err, codes, decimal}
+use Rattle.std.specs.Prelude.{drop, replicate, Option, Some, None, is_none, option_map, Result, Ok, Err, codes, decimal}
 use Rattle.std.specs.List.{flat_map, list_any}
+use Rattle.std.specs.Option.{unwrap_or}
 use Rattle.base.specs.Ram.{ram_base}
 use Rattle.cap_bounds.specs.CapValue.{CapValue, value_of, value_flag}
 use Rattle.tagged_memory.specs.Memory.{Memory, is_in_ram, bytes_at, number_at, word_at, has_tag, tagged_between}
@@ -29,6 +30,8 @@ use Rattle.symbols.specs.Labels.{labelled}
 use Rattle.symbols.specs.Sources.{source_of}
 use Rattle.debug_commands.specs.declared.command.Stop.{Stop}
 use Rattle.debug_commands.specs.declared.command.Stop.TheVariants.{Address, Trap}
+use Rattle.debug_commands.specs.declared.command.Back.{Back as Distance}
+use Rattle.debug_commands.specs.declared.command.Back.TheVariants.{By, ToStop}
 use Rattle.debug_commands.specs.declared.command.Command.{Command}
 use Rattle.debug_commands.specs.declared.command.Command.TheVariants.{Gives, Shows, Recalls, Back, Sets, Quit}
 use Rattle.debug_commands.specs.declared.command.Events.{Events}
@@ -43,6 +46,7 @@ use Rattle.debug_commands.specs.declared.command.View.{View}
 use Rattle.debug_commands.specs.declared.command.View.TheVariants as view
 use Rattle.debug_commands.specs.Command.{about_line, help_text, command_of}
 use Rattle.symbols.specs.Symbols.{Symbol}
+use Rattle.debugger.specs.Behind.{since_stop}
 use Rattle.debugger.specs.SessionState.{SessionState, TimelineState, session_with}
 use Rattle.origins.specs.Places.{held}
 use Rattle.origin_texts.specs.Origin.{lost_text, origin_text}
@@ -173,6 +177,14 @@ taken_back_in n None t = t
 abbrev pub taken_back : ℕ → TimelineState → TimelineState
 taken_back n t = taken_back_in n t.past t
 
+-- how many events are taken back: so many, or those since the last place at which a stop holds, if there is one
+abbrev pub distance_in : Distance → List Stop → TimelineState → Option ℕ
+distance_in (By n) stops t = Some n
+distance_in ToStop stops t = since_stop stops t.replay t.past
+
+abbrev pub events_back : Distance → List Stop → TimelineState → ℕ
+events_back distance stops t = unwrap_or (distance_in distance stops t) 0
+
 -- the line of so many events less, and where the machine stands
 abbrev pub back_line : List Symbol → ℕ → State → List ℕ
 back_line symbols n s =
@@ -194,20 +206,25 @@ most_searched = 100000000
 
 -- a past has fewer events than are to be taken back, or more than a search goes through
 abbrev pub is_beyond_past : Command → PastState → Bool
-is_beyond_past (Back n) past = nat_lt (count_of past.given) n
+is_beyond_past (Back (By n)) past = nat_lt (count_of past.given) n
 is_beyond_past (Recalls (Origin place)) past = nat_lt most_searched (count_of past.given)
 is_beyond_past (Recalls (Lost place)) past = nat_lt most_searched (count_of past.given)
 is_beyond_past other past = false
 
 -- a session without a past can't go back, and recalls nothing
 abbrev pub needs_past : Command → Bool
-needs_past (Back n) = true
+needs_past (Back distance) = true
 needs_past (Recalls recall) = true
 needs_past other = false
 
 abbrev pub is_beyond : Command → Option PastState → Bool
 is_beyond command (Some past) = is_beyond_past command past
 is_beyond command None = needs_past command
+
+-- a command goes back to a stop, and none holds at a place before
+abbrev pub lacks_stop : Command → List Stop → TimelineState → Bool
+lacks_stop (Back distance) stops t = is_none (distance_in distance stops t)
+lacks_stop other stops t = false
 
 -- ---- commands that show
 
@@ -283,7 +300,7 @@ stops_text stops = flat_map stop_line stops
 abbrev pub code_text : DebugFault → List ℕ
 code_text B1 = codes "B1 no such command, or no word on the line\n"
 code_text B2 =
-    codes "B2 operands of another count, form or range, no such label or past, too much to search, or a line too long or not ASCII\n"
+    codes "B2 operands of another count, form or range; no such label, stop or past; too much to search; a line too long or not ASCII\n"
 code_text B3 = codes "B3 some byte to be shown lies outside RAM\n"
 code_text B4 = codes "B4 no memory for the reply\n"
 
@@ -331,12 +348,15 @@ pub data Answer : Type 0 where
 abbrev pub answer_to : Command → SessionState → Answer
 answer_to (Gives events) s = told (events_text events s)
 answer_to (Shows what) s = told (view_text s.symbols s.stops what s.machine)
-answer_to (Back n) s = told (back_line s.symbols n (taken_back n (timeline_of s)).machine)
+answer_to (Back distance) s =
+    let n = events_back distance s.stops (timeline_of s) in
+    told (back_line s.symbols n (taken_back n (timeline_of s)).machine)
 answer_to (Recalls recall) s = told (recalled_in s.symbols recall s.past s.replay)
 answer_to (Sets set) s = told (stops_text (stops_after set s.stops))
 answer_to Quit s = ended
 
--- what a line is refused by in a session: what it writes, then events that it wasn't given, then addresses outside RAM
+-- what a line is refused by in a session: what it writes, then events that it wasn't given, then addresses outside RAM, then a stop that
+-- doesn't hold before
 abbrev pub refused_in : Command → Option PastState → State → Result Command DebugFault
 refused_in command past s = if is_beyond command past then Err B2 else (if is_outside command s then Err B3 else Ok command)
 
@@ -344,13 +364,21 @@ abbrev pub allowed : Result Command DebugFault → Option PastState → State �
 allowed (Ok command) past s = refused_in command past s
 allowed (Err fault) past s = Err fault
 
+abbrev pub with_stop : Command → SessionState → Result Command DebugFault
+with_stop command s = if lacks_stop command s.stops (timeline_of s) then Err B2 else Ok command
+
+abbrev pub admitted : Result Command DebugFault → SessionState → Result Command DebugFault
+admitted (Ok command) s = with_stop command s
+admitted (Err fault) s = Err fault
+
 abbrev pub command_in : List ℕ → SessionState → Result Command DebugFault
-command_in line s = allowed (command_of s.symbols line) s.past s.machine
+command_in line s = admitted (allowed (command_of s.symbols line) s.past s.machine) s
 
 -- the session after a command; none changes the labels
 abbrev pub session_after : Command → SessionState → SessionState
 session_after (Gives events) s = session_with (after_events events (given_in events s) (timeline_of s)) s.symbols s.stops
-session_after (Back n) s = session_with (taken_back n (timeline_of s)) s.symbols s.stops
+session_after (Back distance) s =
+    session_with (taken_back (events_back distance s.stops (timeline_of s)) (timeline_of s)) s.symbols s.stops
 session_after (Recalls recall) s = s
 session_after (Shows what) s = s
 session_after (Sets set) s = record s { stops = stops_after set s.stops }

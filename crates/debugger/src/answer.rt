@@ -1,12 +1,12 @@
 //! The replies to commands.
-ghost use Rattle.std.specs.Prelude.{◌≡◌, ◌++◌, ◌*◌, false, true, IfOk, IfErr, OnOk, OnErr, string_bytes};
+ghost use Rattle.std.specs.Prelude.{◌≡◌, ◌⊎◌, ◌++◌, ◌*◌, false, true, Ok, Err, IfOk, IfErr, OnOk, OnErr, string_bytes};
 ghost use Rattle.cap_bounds.specs.CapValue.{value_flag};
 ghost use Rattle.special_regs.specs.Scrs.{scr_value};
 ghost use Rattle.steps.specs.State.{pc_of};
 ghost use Rattle.tagged_memory.specs.Memory.{is_in_ram};
 ghost use Rattle.debug_commands.specs.Limits.{IsWithinLimits, IsShownWithinLimits};
 ghost use Rattle.debugger.specs.Reply.{answer_to, code_text, is_beyond, is_outside, is_place_outside, is_view_outside, session_after};
-ghost use Rattle.debugger.specs.Reply.{told, view_text, word_lines};
+ghost use Rattle.debugger.specs.Reply.{told, view_text, with_stop, word_lines};
 ghost use Rattle.debugger.specs.Answers.{seen_reply};
 ghost use Rattle.debugger.specs.SessionState.{session_with};
 
@@ -82,7 +82,7 @@ fn code_text(fault: DebugFault) -> &'static str
     match fault {
         DebugFault::B1 => "B1 no such command, or no word on the line\n",
         DebugFault::B2 => {
-            "B2 operands of another count, form or range, no such label or past, too much to search, or a line too long or not ASCII\n"
+            "B2 operands of another count, form or range; no such label, stop or past; too much to search; a line too long or not ASCII\n"
         }
         DebugFault::B3 => "B3 some byte to be shown lies outside RAM\n",
         DebugFault::B4 => "B4 no memory for the reply\n",
@@ -178,7 +178,8 @@ fn shown<C: CapRep>(
     Ok(text)
 }
 
-/// Does what a command asks for, and answers its reply: B4 where there is no memory, then nothing is done.
+/// Does what a command asks for, and answers its reply: B2 where it goes back to a stop and none holds at a place before, B4 where there is
+/// no memory. Then nothing is done.
 pub(crate) fn answer(
     alloc: Global,
     timeline: &mut Timeline<WordCap>,
@@ -192,7 +193,9 @@ pub(crate) fn answer(
     ensures reply { IfOk result (λ reply. seen_reply reply ≡ answer_to command (session_with timeline.old symbols.now stops.old.items)) }
     ensures state { OnOk result (session_with timeline.new symbols.now stops.new.items
         ≡ session_after command (session_with timeline.old symbols.now stops.old.items)) }
-    ensures err { IfErr result (λ fault. fault ≡ DebugFault.B4) }
+    ensures stop { OnOk result (with_stop command (session_with timeline.old symbols.now stops.old.items) ≡ Ok command) }
+    ensures err { IfErr result (λ fault. (fault ≡ DebugFault.B4)
+        ⊎ (with_stop command (session_with timeline.old symbols.now stops.old.items) ≡ Err fault)) }
     ensures same { OnErr result (session_with timeline.new symbols.now stops.new.items
         ≡ session_with timeline.old symbols.now stops.old.items) }
 {
@@ -208,7 +211,9 @@ pub(crate) fn answer(
             view,
         )?)),
         Command::Recalls(recall) => Ok(Reply::Text(recalled(alloc, timeline, symbols, recall)?)),
-        Command::Back(events) => Ok(Reply::Text(told_back(alloc, timeline, symbols, events)?)),
+        Command::Back(distance) => Ok(Reply::Text(told_back(
+            alloc, timeline, symbols, stops, distance,
+        )?)),
         Command::Sets(set) => Ok(Reply::Text(set_stops(alloc, stops, set)?)),
         Command::Quit => Ok(Reply::Quit),
     }

@@ -2,6 +2,7 @@
 #![tactic(auto)]
 
 mod answer;
+mod behind;
 mod caps;
 mod changed;
 mod fault;

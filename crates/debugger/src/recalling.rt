@@ -1,18 +1,19 @@
 //! Commands that go back, and that show what came before.
-ghost use Rattle.std.specs.Prelude.{◌≡◌, ◌≤◌, ◌++◌, false, Some, IfOk, IfErr, OnOk, OnErr, option_copied, string_bytes};
+ghost use Rattle.std.specs.Prelude.{◌≡◌, ◌⊎◌, ◌≤◌, ◌++◌, false, true, None, Some, IfOk, IfErr, OnOk, OnErr, option_copied, string_bytes};
+ghost use Rattle.debug_commands.specs.declared.command.Back.TheVariants.{By};
 ghost use Rattle.debug_commands.specs.declared.command.Command.TheVariants.{Back, Recalls};
 ghost use Rattle.debug_commands.specs.Limits.{IsRecalledWithinLimits};
 ghost use Rattle.debugger.specs.Keeping.{IsRecalledThere, timeline};
 ghost use Rattle.debugger.specs.Reply.{back_line, is_beyond, is_beyond_past, is_outside, recalled as recalled_text};
-ghost use Rattle.debugger.specs.Reply.{recalled_in};
-ghost use Rattle.debugger.specs.Reply.{taken_back};
+ghost use Rattle.debugger.specs.Reply.{distance_in, events_back, lacks_stop, recalled_in, taken_back};
 ghost use Rattle.debugger.specs.SessionState.{HasItsPast};
 ghost use Rattle.past.specs.Given.{count_of};
 
+use crate::behind::since_stop;
 use crate::run::place_text;
 use crate::timeline::Timeline;
 use cap_bounds::CapRep;
-use debug_commands::{Command, DebugFault, Recall};
+use debug_commands::{Back as Distance, Command, DebugFault, Recall, Stop};
 use machine::Machine;
 use origin_texts::{put_lost, put_origin};
 use past::{Past, Replay};
@@ -30,7 +31,7 @@ fn is_beyond_past(past: &Past, command: Command) -> bool
     ensures { result ≡ is_beyond_past command past.now }
 {
     match command {
-        Command::Back(events) => past.count() < events,
+        Command::Back(Distance::By(events)) => past.count() < events,
         Command::Recalls(Recall::Origin(_) | Recall::Lost(_)) => past.count() > MOST_SEARCHED,
         _ => false,
     }
@@ -137,14 +138,14 @@ fn take_back(
     Ok(())
 }
 
-/// Takes back the last events, and answers the line that tells of it: B4 where there is no memory, and then nothing is taken back.
-pub(crate) fn told_back(
+/// Takes back so many events, and answers the line that tells of it: B4 where there is no memory, and then nothing is taken back.
+fn told_back_by(
     alloc: Global,
     timeline: &mut Timeline<WordCap>,
     symbols: &Symbols,
     events: u64,
 ) -> Result<String, DebugFault>
-    requires { is_beyond (Back events) timeline.old.past ≡ false }
+    requires { is_beyond (Back (By events)) timeline.old.past ≡ false }
     ensures text { IfOk result (λ text. string_bytes text ≡ back_line symbols.now events (taken_back events timeline.old).machine) }
     ensures state { OnOk result (timeline.new ≡ taken_back events timeline.old) }
     ensures err { IfErr result (λ fault. fault ≡ DebugFault.B4) }
@@ -165,4 +166,45 @@ pub(crate) fn told_back(
         events,
     )?;
     Ok(text)
+}
+
+/// How many events a command takes back: B2 where it goes to a stop and none holds at a place before, B4 where there is no memory.
+fn distance_in<C: CapRep>(
+    alloc: Global,
+    timeline: &Timeline<C>,
+    stops: &[Stop],
+    distance: Distance,
+) -> Result<u64, DebugFault>
+    requires { is_beyond (Back distance) timeline.now.past ≡ false }
+    ensures ok { IfOk result (λ n. distance_in distance stops.now timeline.now ≡ Some n) }
+    ensures few { IfOk result (λ n. is_beyond (Back (By n)) timeline.now.past ≡ false) }
+    ensures err { IfErr result (λ fault. (fault ≡ DebugFault.B4)
+        ⊎ ((fault ≡ DebugFault.B2) × (distance_in distance stops.now timeline.now ≡ None))) }
+{
+    match distance {
+        Distance::By(events) => Ok(events),
+        Distance::ToStop => since_stop(alloc, &timeline.past, timeline.replay.as_ref(), stops),
+    }
+}
+
+/// Takes back the last events, and answers the line that tells of it: B2 where they go back to a stop and none holds at a place before, B4
+/// where there is no memory. Then nothing is taken back.
+pub(crate) fn told_back(
+    alloc: Global,
+    timeline: &mut Timeline<WordCap>,
+    symbols: &Symbols,
+    stops: &[Stop],
+    distance: Distance,
+) -> Result<String, DebugFault>
+    requires { is_beyond (Back distance) timeline.old.past ≡ false }
+    ensures text { IfOk result (λ text. string_bytes text ≡ back_line symbols.now (events_back distance stops.now timeline.old)
+        (taken_back (events_back distance stops.now timeline.old) timeline.old).machine) }
+    ensures state { OnOk result (timeline.new ≡ taken_back (events_back distance stops.now timeline.old) timeline.old) }
+    ensures stop { OnOk result (lacks_stop (Back distance) stops.now timeline.old ≡ false) }
+    ensures err { IfErr result (λ fault. (fault ≡ DebugFault.B4)
+        ⊎ ((fault ≡ DebugFault.B2) × (lacks_stop (Back distance) stops.now timeline.old ≡ true))) }
+    ensures same { OnErr result (timeline.new ≡ timeline.old) }
+{
+    let events = distance_in(alloc, timeline, stops, distance)?;
+    told_back_by(alloc, timeline, symbols, events)
 }

@@ -58,7 +58,11 @@ fn is_stop<C: CapRep>(machine: &Machine<C>, stop: Stop, planned: &Planned<C>) ->
 }
 
 /// Whether it is at one of some stops.
-fn is_any_stop<C: CapRep>(machine: &Machine<C>, stops: &[Stop], planned: &Planned<C>) -> bool
+pub(crate) fn is_any_stop<C: CapRep>(
+    machine: &Machine<C>,
+    stops: &[Stop],
+    planned: &Planned<C>,
+) -> bool
     requires planned { IsPlanned C.value planned.now.effect machine.now }
     requires running { machine.now.devices.halted ≡ None }
     ensures { result ≡ is_any_stop stops.now machine.now }

@@ -1,4 +1,5 @@
 pub mod OneByOne
 pub mod InOrder
 pub mod Seeks
+pub mod InTurn
 mod Stay

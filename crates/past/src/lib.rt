@@ -2,6 +2,7 @@
 #![tactic(auto)]
 
 mod cutting;
+mod events;
 mod given;
 mod giving;
 pub mod laws;
@@ -10,6 +11,7 @@ mod player;
 mod replay;
 mod seeking;
 
+pub use events::PastEvents;
 pub use given::Given;
 pub use past::Past;
 pub use player::Player;

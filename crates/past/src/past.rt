@@ -8,6 +8,7 @@ ghost use Rattle.past.specs.Given.{but_last, count_of, count_of_one, first_of, p
 ghost use Rattle.past.specs.Replay.{ReplayState};
 
 use crate::cutting::{keep_first, set_last};
+use crate::events::PastEvents;
 use crate::given::{Given, count_of_one};
 use crate::giving::give_from_beginning;
 use crate::player::Player;
@@ -95,6 +96,15 @@ impl Past {
     {
         keep_first(&mut self.given, n);
         self.count = self.count.min(n);
+    }
+
+    /// The events, in order.
+    pub fn events<'a>(&'a self, replay: Option<&'a Replay>) -> PastEvents<'a>
+        ensures { result ≡ past_events self.now (option_copied replay.entry) }
+    {
+        // read, since the range of what is read is known
+        let _count = self.count;
+        PastEvents::new(replay, &self.given)
     }
 
     /// A machine after the first `n` events, and where the session's steps stand there: M2 where there is no memory for it, and no other

@@ -36,6 +36,21 @@ class Sessions(unittest.TestCase):
             self.assertEqual(past.answers(["step 3", "changed ca0 9", "step 2", "origin ca0", "lost ca0", "ago"]), told)
 
 
+    def test_back_to_stop_goes_to_where_go_stopped(self):
+        for schedule in (None, (2, 3, b"AB"), (1, 1, b"ABCDEFGHIJKLMNOP"), (3, 2, b"")):
+            for stops in (["at 0x80000010"], ["at 0x80000010", "at 0x80000018"], ["trap"], ["trap", "at 0x80000014"]):
+                past, places = Past(pasts.CALLS, schedule and Schedule(*schedule)), []
+                past.answers([f"stop {stop}" for stop in stops])
+                for _ in range(5):
+                    past.answer("go")
+                    places.append(past.count)
+                past.answer("step 1")
+                for place in reversed(places):
+                    past.answer("back to stop")
+                    self.assertEqual(past.count, place, f"{schedule} {stops}")
+                self.assertEqual((past.answer("back to stop"), past.count), ("fault B2\n", places[0]))
+
+
 class Writes(unittest.TestCase):
     """What events of the texts of all cases, and of the examples, wrote."""
 
