@@ -343,12 +343,74 @@ def to_stops_on_schedules():
                   f"stop at 0x8000000c; step 4; tick 1; byte 0x5a; step 30; tick 2; {TO_STOP}; step 2; reg a0; ago", BY_SECONDS)
 
 
+# ---- stops at changes
+
+# A capability to 64 bytes at 0x80000400, which a loop stores and takes apart, byte by byte, and by a word that is what stands there.
+WRITES = ("cspecialrw ca0, ddc, cnull; auipc a1, 0x0; addi a1, a1, 1020; csetaddr ca2, ca0, a1; csetboundsimm ca2, ca2, 64; "
+          "loop: sc.cap ca2, (ca2); ld a3, 0(a1); sd a3, 0(a1); addi a4, a4, 1; sb a4, 20(a1); sb a4, 20(a1); sh a4, 31(a1); j loop")
+ON = "go 60; ago"
+
+
+def changes():
+    yield session("A register, each time that it holds another value", LOOP, f"stop changed a1; {times(4, ON)}; reg a1; {times(3)}; reg a1")
+    yield session("The step that changes it is the one before; the first step of `go` may be that", LOOP,
+                  f"stop changed a1; step 2; {times(3, 'go 1; reg a1')}; go 1; back to stop; dis; step 1; reg a1")
+    yield session("What is written again as it was has not changed", "addi a0, zero, 5; addi a0, zero, 5; loop: addi a0, zero, 6; j loop",
+                  f"stop changed a0; {ON}; {ON}; go 50; {TO_STOP}; {TO_STOP}; {TO_STOP}")
+    yield session("Register 0 and what the program doesn't touch never change", LOOP,
+                  f"stop changed zero; stop changed cs11; stop changed mtdc; stop changed 0x80000800 16; go 40; {TO_STOP}; stops")
+    yield session("PCC changes with each step", LOOP, f"stop changed pcc; {times(3, ON)}; {times(4)}")
+    yield session("A special register", CALLS,
+                  f"stop changed mepcc; {times(3, ON)}; {times(3)}; stop off; stop changed mtcc; go 30; {TO_STOP}")
+    yield session("A tag that goes: of the register, and of a granule whose bytes stay", WRITES,
+                  f"stop changed 0x80000400; {times(4, ON)}; caps; {times(4)}; caps; stop off; stop changed 0x80000400 16; step 5; "
+                  f"{times(3, 'go 40')}; {TO_STOP}")
+    yield session("A tag that goes from a register", HAS + "ccleartag ct0, ct0; cmove ct0, ca2; nop",
+                  f"step 10; stop changed ct0; go 60; reg ct0; go 60; reg ct0; go 9; {times(3)}; reg ct0")
+    yield session("Bytes: of a store of eight the one that is watched, at both ends of what is stored, and across granules", WRITES,
+                  "; ".join(f"stop off; stop changed {place} {size}; go 60; ago; go 60; ago; back to stop; ago" for place, size in (
+                      ("0x80000413", 1), ("0x80000414", 1), ("0x80000415", 1), ("0x8000041f", 1), ("0x8000041e", 1), ("0x80000420", 1),
+                      ("0x80000421", 1), ("0x80000410", 4), ("0x8000040c", 9), ("0x80000400", 4096 - 1024), ("0x80000000", 4096),
+                      ("0x80000ff0", 16), ("0x80000fff", 1), ("0x80000000", 1))))
+    yield session("Code that a program stores over", "auipc a1, 0x0; addi a0, zero, 19; sw a0, 12(a1); ebreak; nop",
+                  f"stop changed 0x8000000c 4; go 60; dis; go 1; {TO_STOP}; dis 0x8000000c 1")
+    yield session("More stops: an address, a trap and changes, the first of them wherever it is", CALLS,
+                  f"stop changed a1; stop trap; stop at 0x80000014; stop changed mepcc; {times(12, ON)}; {times(13)}")
+    yield session("Addresses on both sides of where the program stands, one twice", LOOP,
+                  f"stop at 0x8000000c; stop at 0x80000004; stop at 0x8000000c; stop trap; stops; {times(9, ON)}; {times(10)}")
+    yield session("`until`, `trap` and `step` ask for no stop of the session", CALLS,
+                  f"stop changed a1; step 9; until 0x80000014 50; trap 9; ago; {times(3)}")
+    yield session("What is watched is as it is where the command begins: also after `back`, `changed` and `step`", LOOP,
+                  f"stop changed a1; step 7; go 60; ago; back 3; go 60; ago; changed a1 9; go 60; ago; {TO_STOP}; {TO_STOP}")
+    yield session("No stop holds after the halt", FIRST, f"stop changed a0; go 60; ago; go 60; ago; go 60; ago; {times(3)}")
+    yield session("Which stops are one", LOOP, "stop changed ca0; stop changed a0; stop changed x10; stop changed c10; stop changed ddc; "
+                  "stop changed pcc; stop changed 0x80000400; stop changed 0x80000400 16; stop changed 2147484672 0x10; "
+                  "stop changed 0x80000400 15; stop at 0x80000400; stop trap; stop trap; stops; stop off; stops")
+    yield session("On a schedule, between bytes and ticks", KEEPS,
+                  f"stop changed a0; {times(4, ON)}; {times(4)}; stop off; stop changed 0x80000404 1; {times(3, ON)}; reg a0; {times(3)}",
+                  (1, 1, b"ABCAAB"))
+    yield session("Between a step and its tick", KEEPS, f"stop changed a0; changed a0 100; {ON}; {TO_STOP}; {ON}", (1, 1, b"AB"))
+    yield session("Ticks and bytes beside the steps change nothing that is watched", RECEIVES,
+                  f"stop changed a0; step 1; byte 0x41; tick 3; {ON}; {TO_STOP}; {ON}")
+    yield session("Before a trap whose entry can't be fetched, and at a change that comes with it", "addi a0, a0, 1; ecall; nop",
+                  f"stop changed a0; go 60; go 60; go 60; stop changed mepcc; go 60; ago; {times(2)}")
+    yield session("Labels", LOOP, "stop changed data; stop changed data 3; stop changed data+1 3; stop changed data-16; stop changed ca0; "
+                  "stops; go 9", None, {"data": BYTES, "loop": RAM + 4})
+    yield session("Bytes outside RAM", FIRST, "step 2; " + each("stop changed {0}", OUTSIDE) + "; stops; "
+                  + "; ".join(f"stop changed {it}" for it in BEYOND) + "; stops; step 1")
+
+
 # ---- refusals
 
 REFUSED = [
     "ago 1", "ago x", "back", "back 1 1", "back x", "back -1", "back -0", "back 00", "back a0", "back 18446744073709551616",
     "back to", "back stop", "back to 1", "back to stops", "back To stop", "back to Stop", "back to trap", "back stop to",
     "back to stop 1", "back 1 stop", "back 1 to stop", "back to stop to", "back to to stop", "back tostop",
+    *(f"stop changed{rest}" for rest in (
+        "", " x", " x32", " a0 1", " ca0 16", " pcc 1", " mstatus", " mtvec", " 0x80000008", " 0x8000000f", " 8", " -16", " .text",
+        " 0x80000000 0", " 0x80000000 4097", " 0x80000000 -1", " 0x80000000 x", " 0x80000000 16 1", " 0x80000000 a0",
+        " 0x10000000000000000", " 0x10000000000000000 1", " -1 1", " x 1", " PCC", " A0", " (ca0)", " changed", " at 0x80000000")),
+    "stop Changed a0", "stop change a0", "stop changes a0", "stop at changed", "stop trap changed",
     *(f"{name}{rest}" for name in ("origin", "lost") for rest in (
         "", " a0 a1", " a0 1", " 0x80000008", " 0x80000001", " 0x8000000f", " 8", " x", " x32", " A0", " PCC", " mstatus", " mtvec",
         " .text", " 0x10000000000000000", " -16", " 0xffffffffffffffff", " pc", " c", " (ca0)")),
@@ -358,6 +420,8 @@ REFUSED = [
 ]
 NO_COMMANDS = ["Ago", "agos", "backs 1", "BACK 1", "origins a0", "origi a0", "change a0 1", "Changed a0 1", "losts a0", "lose a0",
                "forth 1"]
+BEYOND = ("0x7fffffff 1", "0x7fffffff 2", "0x80000fff 2", "0x80000ff0 17", "0x80001000 1", "0 1", "0xffffffffffffffff 1",
+          "0xfffffffffffff000 4096", "0xffffffffffffffff 4096", "0x10000000 1", "0x100000 8", "0x80000001 4096")
 OUTSIDE = "0 16 0x10000000 0x7ffffff0 0x80001000 0xfffffffffffffff0 0x80000ff0 2147483648"
 
 def refusals():
@@ -461,8 +525,8 @@ def named():
 
 
 def conversations():
-    for part in (chains, false, memory, specials, traps, jumps, back_and_forth, to_stops, refusals, schedules, to_stops_on_schedules,
-                 named):
+    for part in (chains, false, memory, specials, traps, jumps, back_and_forth, to_stops, changes, refusals, schedules,
+                 to_stops_on_schedules, named):
         yield from part()
 
 

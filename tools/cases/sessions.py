@@ -19,7 +19,7 @@ back N|to stop
 ago
 origin R|ADDR
 lost R|ADDR
-stop at ADDR|trap|off
+stop at ADDR|changed R|changed ADDR [LEN]|trap|off
 stops
 reg R
 regs

@@ -4,23 +4,9 @@ Where a session has a schedule, its own events are those that the schedule has i
 it.
 """
 from model import origins, recorded
-from model.memory import WORD
-from model.names import REGISTERS, SCRS
-from model.origins import GRANULE, REGISTER, SPECIAL, Event, held
-from model.sessions import Optional, Refused, Session, address, number, one_of
+from model.origins import Event, held
+from model.sessions import Optional, Refused, Session, number, one_of, place_of
 from model.words import ONES
-
-
-def place_of(session, word):
-    """Reads a place: a register before a special register before a granule's address."""
-    if word in REGISTERS:
-        return REGISTER, REGISTERS[word]
-    if word in SCRS:
-        return SPECIAL, word
-    found = address(session, word)
-    if found % WORD:
-        raise Refused("B2")
-    return GRANULE, found
 
 
 def distance(session, word):
@@ -50,12 +36,6 @@ class Past(Session):
         self.given.append((kind, byte, is_own))
         super().give(kind, byte, is_own)
 
-    def within(self, place):
-        """A place, which is to lie in RAM if it is a granule."""
-        if place[0] == GRANULE and not self.machine.memory.holds(place[1], WORD):
-            raise Refused("B3")
-        return place
-
     def on_ago(self):
         return f"events {self.count}\n"
 
@@ -76,14 +56,17 @@ class Past(Session):
             self.give(*event)
 
     def to_stop(self):
-        """Takes one event after the other back, up to a step before which a stop holds; all come again where there is none."""
-        given = self.given
-        while self.count:
-            self.stand_after(given[:self.count - 1])
-            if given[self.count][0] == "step" and not self.is_halted() and self.is_at(self.stops):
-                return
-        self.stand_after(given)
-        raise Refused("B2")
+        """Back to the last step before which a stop holds; all events come again where there is none."""
+        given, last = self.given, None
+        self.look(self.stops)
+        self.begin()
+        for event in given:
+            if event[0] == "step" and not self.is_halted() and self.is_at(self.stops):
+                last = self.count
+            self.give(*event)
+        if last is None:
+            raise Refused("B2")
+        self.stand_after(given[:last])
 
     def on_changed(self, place, most):
         """Events of the session's own steps, up to the halt or to one after which the place holds another value."""

@@ -86,7 +86,8 @@ REST = [
      "origins/specs/Places, Making, Made, Tags, Kept, Search, Parts; past/specs/Replay, Position, Given; "
      "origin_texts/specs/Link, Conditions, Origin"),
     ("sessions",
-     "debug_commands/specs/Address, Command; debugger/specs/SessionState, Stepping, Behind, Reaching, Reply, Answers, Conversation, Talk, OnSchedule"),
+     "debug_commands/specs/Address, Command; debugger/specs/SessionState, Stops, Stepping, LastStop, Reaching, Reply, Answers, "
+     "Conversation, Talk, OnSchedule"),
     ("what commands do with files",
      "commands/specs/Files, Programs, Loading, Assembling, Imaging, Bounding, Listing, Running, Watching, RunFaults, Auditing, Proving, "
      "Overwriting, FaultTexts; "

@@ -4,14 +4,20 @@
 ghost use Rattle.std.specs.Prelude.{◌-◌, ◌^◌, ◌<◌};
 
 mod disk;
+mod keyboard;
 mod pipe;
+mod screen;
 mod waiting;
 
 use disk::Disk;
+use keyboard::Keyboard;
 use pipe::Pipe;
 use program::{ProgramFault, Sink, Writing, refuse, status_of, tell_fault};
+use screen::Screen;
+use std::cell::Cell;
+use std::env;
+use std::io::{self, IsTerminal};
 use std::process::ExitCode;
-use std::{env, io};
 
 /// What is told of a word that is no text.
 const NOT_UTF8: &str = "error: a word of the command line is not UTF-8\n";
@@ -33,6 +39,11 @@ fn tell_error<E: Sink>(errors: &mut E, error: &io::Error) -> u8
     }
 }
 
+/// Whether these words begin a session whose commands are typed at a terminal and answered on one.
+fn is_at_terminal(rt: &HostRuntime, words: &[&str]) -> bool {
+    words.len() > 1 && words[1] == "debug" && rt.stdin().is_terminal() && rt.stdout().is_terminal()
+}
+
 /// Does what the words of the command line ask, and answers the status.
 fn status(rt: &HostRuntime, words: &[String]) -> u8 {
     let mut texts = Vec::new(rt.alloc());
@@ -46,8 +57,12 @@ fn status(rt: &HostRuntime, words: &[String]) -> u8 {
     let stderr = rt.stderr();
     let mut errors = Writing::new(io::writer(&stderr));
     let mut disk = Disk::new(rt);
-    let input = rt.reader();
-    let output = Pipe::new(io::writer(rt));
+    let is_terminal = is_at_terminal(rt, &texts);
+    let refused = Cell::new(false);
+    let prompts = is_terminal.then_some(io::writer(rt));
+    let input = Keyboard::new(rt.reader(), prompts, &refused);
+    let pipe = Pipe::new(io::writer(rt));
+    let output = Screen::new(rt.alloc(), pipe, is_terminal, &refused);
     status_of(rt.alloc(), &mut disk, input, output, &mut errors, &texts).status
 }
 

@@ -21,17 +21,13 @@ use Rattle.origins.specs.declared.place.Place.{Place}
 use Rattle.origins.specs.declared.place.Place.TheVariants as holder
 use Rattle.debug_commands.specs.declared.command.Recall.TheVariants.{Ago, Origin, Lost}
 use Rattle.debug_commands.specs.declared.command.SetStops.TheVariants.{Add, Clear}
-use Rattle.debug_commands.specs.declared.command.Stop.{Stop}
-use Rattle.debug_commands.specs.declared.command.Stop.TheVariants.{Address, Trap}
+use Rattle.debug_commands.specs.declared.command.Stop.TheVariants as stop
 use Rattle.debug_commands.specs.declared.command.View.{View}
 use Rattle.debug_commands.specs.declared.command.View.TheVariants as view
+use Rattle.debug_commands.specs.declared.command.Watched.{Watched}
+use Rattle.debug_commands.specs.declared.command.Watched.TheVariants.{Held, Bytes}
 use Rattle.reach.specs.declared.may.May.{May as Question}
 use Rattle.reach.specs.declared.may.May.TheVariants.{Store, Load, Execute, Learn, Keep, Send, Halt, System, Timer, Hold}
-
--- the address at which a command stops, if it stops at one
-abbrev pub stop_address : Stop → Option ℕ
-stop_address (Address address) = Some address
-stop_address Trap = None
 
 -- what holds a capability: a register or a special capability register by its name, or else the granule at an address, a multiple of 16
 abbrev pub granule_at : ℕ → Option Place
@@ -113,6 +109,21 @@ holder_and_number symbols high (r ∷ []) = Err B2
 holder_and_number symbols high (r ∷ n ∷ []) = or_B2 (both (holder_in symbols r) (read_number (number_between 1 high n)))
 holder_and_number symbols high (r ∷ n ∷ m ∷ rest) = Err B2
 
+-- what is watched for a change: what holds a capability, or so many bytes from an address
+abbrev pub held_watched : Option Place → Result Watched DebugFault
+held_watched (Some place) = Ok (Held place)
+held_watched None = Err B2
+
+abbrev pub bytes_watched : Option (ℕ × ℕ) → Result Watched DebugFault
+bytes_watched (Some p) = Ok (Bytes p.0 p.1)
+bytes_watched None = Err B2
+
+abbrev pub watched : List Symbol → ℕ → List (List ℕ) → Result Watched DebugFault
+watched symbols high [] = Err B2
+watched symbols high (r ∷ []) = held_watched (holder_in symbols r)
+watched symbols high (a ∷ n ∷ []) = bytes_watched (both (address_at symbols a) (read_number (number_between 1 high n)))
+watched symbols high (a ∷ n ∷ m ∷ rest) = Err B2
+
 -- how far a command goes back: by so many events, or `to stop`
 abbrev pub distance_of : Option ℕ → Result Distance DebugFault
 distance_of (Some n) = Ok (By n)
@@ -159,9 +170,9 @@ some_bytes_and_horizon symbols high words = all_or high (horizon_of words) (byte
 
 -- how operands are written: none; a number of these limits, and one that may be left out and then is this one; an address that is such a
 -- multiple and a number from 1 on, which may be left out too; an address; a register's name; what holds a capability, alone and with a
--- number from 1 on; how far a command goes back, by a number from 1 on. And the command of what they say. Or a word of a table of its own,
--- and then that word's operands. A question's operands, nothing, a number, an address and a number, or these two or nothing, end with how
--- far its answer is to hold.
+-- number from 1 on; what is watched for a change, as many bytes at most; how far a command goes back, by a number from 1 on. And the
+-- command of what they say. Or a word of a table of its own, and then that word's operands. A question's operands, nothing, a number, an
+-- address and a number, or these two or nothing, end with how far its answer is to hold.
 pub data Operands : Type 0 where
   nothing : Command → Operands
   number : ℕ → ℕ → (ℕ → Command) → Operands
@@ -171,6 +182,7 @@ pub data Operands : Type 0 where
   a_register : (View → Command) → Operands
   a_holder : (Place → Command) → Operands
   a_holder_and_number : ℕ → (Place → ℕ → Command) → Operands
+  a_watch : ℕ → (Watched → Command) → Operands
   a_distance_back : ℕ → (Distance → Command) → Operands
   a_verb : (List Symbol → List (List ℕ) → Result Command DebugFault) → Operands
   question : Question → Operands
@@ -212,6 +224,7 @@ said_by symbols (an_address make) words = made make (one_address symbols words)
 said_by symbols (a_register make) words = made make (one_register words)
 said_by symbols (a_holder make) words = made make (one_holder symbols words)
 said_by symbols (a_holder_and_number high make) words = made (λ p. make p.0 p.1) (holder_and_number symbols high words)
+said_by symbols (a_watch high make) words = made make (watched symbols high words)
 said_by symbols (a_distance_back high make) words = made make (distance_back high words)
 said_by symbols (a_verb read) words = read symbols words
 said_by symbols (question may) words = made (λ horizon. Shows (view.May may horizon)) (horizon_of words)
@@ -271,8 +284,9 @@ may_of symbols (word ∷ operands) = command_among B2 symbols questions word ope
 -- what follows `stop`: a stop that is set, or that none is left
 abbrev pub settings : List Line
 settings =
-    choice (codes "at") (an_address (λ address. Sets (Add (Address address))))
-    ∷ choice (codes "trap") (nothing (Sets (Add Trap)))
+    choice (codes "at") (an_address (λ address. Sets (Add (stop.Address address))))
+    ∷ choice (codes "changed") (a_watch 4096 (λ what. Sets (Add (stop.Changed what))))
+    ∷ choice (codes "trap") (nothing (Sets (Add stop.Trap)))
     ∷ choice (codes "off") (nothing (Sets Clear))
     ∷ []
 
@@ -297,7 +311,7 @@ explained =
 -- the commands of stops, and those that show; with how what follows `help` is read, which asks the table itself
 abbrev pub of_states : (List Symbol → List (List ℕ) → Result Command DebugFault) → List Line
 of_states help =
-    line (codes "stop") (codes " at ADDR|trap|off") (codes "stop at 0x80000010") (a_verb stop_of)
+    line (codes "stop") (codes " at ADDR|changed R|changed ADDR [LEN]|trap|off") (codes "stop at 0x80000010") (a_verb stop_of)
     ∷ line (codes "stops") [] (codes "stops") (nothing (Shows view.Stops))
     ∷ line (codes "reg") (codes " R") (codes "reg ca0") (a_register (λ what. Shows what))
     ∷ line (codes "regs") [] (codes "regs") (nothing (Shows view.Registers))
@@ -322,8 +336,8 @@ table help =
     ∷ line (codes "tick") (codes " N") (codes "tick 1") (number 1 1000000 (λ n. Gives (Ticks n)))
     ∷ line (codes "byte") (codes " B") (codes "byte 0x41") (number 0 255 (λ n. Gives (Byte n)))
     ∷ line (codes "until") (codes " ADDR [N]") (codes "until 0x80000010")
-    (place 1000000000 1 1000000 (λ address n. Gives (Until (Address address) n)))
-    ∷ line (codes "trap") (codes " [N]") (codes "trap") (number_if 1000000000 1 1000000 (λ n. Gives (Until Trap n)))
+    (place 1000000000 1 1000000 (λ address n. Gives (Until (stop.Address address) n)))
+    ∷ line (codes "trap") (codes " [N]") (codes "trap") (number_if 1000000000 1 1000000 (λ n. Gives (Until stop.Trap n)))
     ∷ line (codes "go") (codes " [N]") (codes "go 5000000") (number_if 1000000000 1 1000000000000 (λ n. Gives (Go n)))
     ∷ line (codes "changed") (codes " R|ADDR N") (codes "changed ca0 1000")
     (a_holder_and_number 1000000 (λ place n. Gives (Changed place n)))

@@ -1,10 +1,16 @@
 //! The commands of a session.
-ghost use Rattle.std.specs.Prelude.{◌≡◌};
-ghost use Rattle.debug_commands.specs.Command.{stop_address};
-
 use crate::fault::DebugFault;
 use origins::Place;
 use reach::{Horizon, May};
+
+/// What is watched for a change.
+#[derive(Clone, Copy)]
+pub enum Watched {
+    /// What a place holds, its tag too.
+    Held(Place),
+    /// So many bytes from an address, 1 to 4096. They may lie outside RAM.
+    Bytes { address: u64, count: u64 },
+}
 
 /// Where steps that a command gives stop.
 #[derive(Clone, Copy)]
@@ -13,18 +19,8 @@ pub enum Stop {
     Address(u64),
     /// Before a step that would trap.
     Trap,
-}
-
-impl Stop {
-    /// The address at which it is, or none where it is before a trap.
-    pub fn address(self) -> Option<u64>
-        ensures { result ≡ stop_address self }
-    {
-        match self {
-            Stop::Address(address) => Some(address),
-            Stop::Trap => None,
-        }
-    }
+    /// Where what is watched isn't what it was when the command began.
+    Changed(Watched),
 }
 
 /// The events that a command gives.

@@ -8,6 +8,6 @@ pub mod laws;
 mod operands;
 mod table;
 
-pub use command::{Back, Command, Events, Recall, SetStops, Stop, View};
+pub use command::{Back, Command, Events, Recall, SetStops, Stop, View, Watched};
 pub use fault::DebugFault;
 pub use table::{about_line, command_of, help_text};

@@ -9,7 +9,7 @@ ghost use Rattle.asm_lines.specs.Words.{words_of};
 ghost use Rattle.origins.specs.Places.{IsHolder};
 
 use crate::address::address_at;
-use crate::command::{Back, View};
+use crate::command::{Back, View, Watched};
 use crate::fault::DebugFault;
 use asm_lines::{number_between, split_word};
 use asm_names::{register_named, scr_named};
@@ -199,6 +199,28 @@ pub(crate) fn holder_and_number(
     }
     match (holder_in(symbols, place), number_between(count, 1, high)) {
         (Some(place), Some(count)) => Ok((place, count)),
+        _ => Err(DebugFault::B2),
+    }
+}
+
+/// What is watched for a change: what holds a capability, or an address and a number of 1 to `high`, or else it is B2.
+pub(crate) fn watched(symbols: &Symbols, operands: &[u8], high: u64) -> Result<Watched, DebugFault>
+    ensures { result ≡ spec.watched symbols.now high (words_of operands.now) }
+{
+    let Some((place, rest)) = split_word(operands) else {
+        return Err(DebugFault::B2);
+    };
+    let Some((count, rest)) = split_word(rest) else {
+        return match holder_in(symbols, place) {
+            Some(place) => Ok(Watched::Held(place)),
+            None => Err(DebugFault::B2),
+        };
+    };
+    if split_word(rest).is_some() {
+        return Err(DebugFault::B2);
+    }
+    match (address_at(symbols, place), number_between(count, 1, high)) {
+        (Some(address), Some(count)) => Ok(Watched::Bytes { address, count }),
         _ => Err(DebugFault::B2),
     }
 }

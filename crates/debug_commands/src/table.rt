@@ -11,7 +11,7 @@ use crate::fault::DebugFault;
 use crate::operands::{
     address_and_number_or, bytes_and_horizon, distance_back, holder_and_number, horizon,
     number_and_horizon, number_or, one_address, one_holder, one_number, one_register,
-    some_bytes_and_horizon,
+    some_bytes_and_horizon, watched,
 };
 use asm_lines::{Class, run_length, split_word};
 use reach::{Horizon, May};
@@ -73,7 +73,7 @@ macro_rules! of_states {
     ($reading:ident $($what:tt)*) => {
         $reading! {
             $($what)*;
-            "stop" (" at ADDR|trap|off", "stop at 0x80000010") (verb stop_of) n => ();
+            "stop" (" at ADDR|changed R|changed ADDR [LEN]|trap|off", "stop at 0x80000010") (verb stop_of) n => ();
             "stops" ("", "stops") (nothing) n => Command::Shows(View::Stops);
             "reg" (" R", "reg ca0") (register) v => Command::Shows(v);
             "regs" ("", "regs") (nothing) n => Command::Shows(View::Registers);
@@ -141,6 +141,7 @@ macro_rules! settings {
         $reading! {
             $($what)*;
             "at" () (address) a => Command::Sets(SetStops::Add(Stop::Address(a)));
+            "changed" () (watched MOST_SHOWN) w => Command::Sets(SetStops::Add(Stop::Changed(w)));
             "trap" () (nothing) n => Command::Sets(SetStops::Add(Stop::Trap));
             "off" () (nothing) n => Command::Sets(SetStops::Clear);
         }
@@ -199,6 +200,10 @@ macro_rules! made_of {
     }};
     ((holder_and_number $high:tt) $said:ident $made:expr, $symbols:ident $operands:ident) => {{
         let $said = holder_and_number($symbols, $operands, $high)?;
+        Ok($made)
+    }};
+    ((watched $high:tt) $said:ident $made:expr, $symbols:ident $operands:ident) => {{
+        let $said = watched($symbols, $operands, $high)?;
         Ok($made)
     }};
     ((distance_back $high:tt) $said:ident $made:expr, $symbols:ident $operands:ident) => {{

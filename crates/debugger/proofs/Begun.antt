@@ -4,7 +4,7 @@ use Rattle.std.proofs.Common.{ap, ap₂, ◌∙◌, subst, arith}
 use Rattle.std.specs.Prelude.{Option, None, Some, IfSome, option_map}
 use Rattle.debug_commands.specs.declared.command.Events.{Events}
 use Rattle.debug_commands.specs.declared.command.Events.TheVariants.{Steps, Ticks, Byte, Until, Go, Changed}
-use Rattle.debug_commands.specs.declared.command.Stop.{Stop}
+use Rattle.debugger.specs.Stops.{Mark}
 use Rattle.steps.specs.State.{State}
 use Rattle.steps.specs.declared.event.Event.{Event}
 use Rattle.machine.specs.Run.{run_after}
@@ -52,13 +52,13 @@ kept_begun (Some past) events es count e =
     ap (λ n. Some (kept_last (given_of events n) (begun_past past))) e
     ∙ ap (λ gs. Some (record past { given = gs ++ given_of events (length es) ∷ [] })) (last_off past.given (gave.Steps 0))
 
-pub stays_there : (past : Option PastState) (replay : Option ReplayState) (owed : Bool) (s : State) (events : Events) (stops : List Stop)
+pub stays_there : (past : Option PastState) (replay : Option ReplayState) (owed : Bool) (s : State) (events : Events) (marks : List Mark)
     → StandsThere past replay owed s
-    → StandsThere (past_after events (given events replay owed stops s) past)
-    (replay_after events (given events replay owed stops s) replay)
-    (owed_after events (given events replay owed stops s) replay owed s) (run_after (given events replay owed stops s) s)
-stays_there None replay owed s events stops stands = tt
-stays_there (Some past) replay owed s events stops stands = keeps past replay owed s stands events stops
+    → StandsThere (past_after events (given events replay owed marks s) past)
+    (replay_after events (given events replay owed marks s) replay)
+    (owed_after events (given events replay owed marks s) replay owed s) (run_after (given events replay owed marks s) s)
+stays_there None replay owed s events marks stands = tt
+stays_there (Some past) replay owed s events marks stands = keeps past replay owed s stands events marks
 
 pub all_same : (past : Option PastState) (replay : Option ReplayState) (owed : Bool) (s : State) (events : Events) (es : List Event)
     (p : Option PastState) (r : Option ReplayState) (o : Bool) (m : State) → m ≡ run_after es s → r ≡ replay_after events es replay

@@ -9,7 +9,8 @@ use Rattle.steps.specs.State.{State}
 use Rattle.machine.specs.Run.{run_after}
 use Rattle.schedules.specs.Schedule.{is_halted}
 use Rattle.past.specs.Replay.{ReplayState, byte_due, byte_events, is_tick_due}
-use Rattle.debugger.specs.Stepping.{Ends, counted_steps, is_at_end, is_end, next_step, nowhere, ready, step_events, steps_while}
+use Rattle.debugger.specs.Stepping.{counted_steps, is_at_end, next_step, ready, step_events, steps_while}
+use Rattle.debugger.specs.Stops.{Ends, is_end, nowhere}
 
 one_byte : (due : Option ℕ) → length (map Byte (option_to_list due)) ≤ 1
 one_byte None = omega arith

@@ -5,7 +5,6 @@ use Rattle.std.specs.Prelude.{Option, None, Some, option_map, if◌then◌else�
 use Rattle.debug_commands.specs.declared.command.Events.{Events}
 use Rattle.debug_commands.specs.declared.command.Events.TheVariants.{Steps, Ticks, Byte, Until, Go, Changed}
 use Rattle.origins.specs.declared.place.Place.{Place}
-use Rattle.debug_commands.specs.declared.command.Stop.{Stop}
 use Rattle.steps.specs.State.{State}
 use Rattle.steps.specs.declared.event.Event.{Event}
 use Rattle.steps.specs.declared.event.Event.TheVariants as event
@@ -16,22 +15,23 @@ use Rattle.past.specs.Position.{Position, after_byte_or_step, at, byte_or_step, 
 use Rattle.past.specs.Replay.{ReplayState, byte_due, replayed}
 use Rattle.schedules.specs.Schedule.{is_halted}
 use Rattle.debugger.specs.Reply.{are_scheduled, given, owed_after, owed_events, own_steps, replay_after, with_tick}
-use Rattle.debugger.specs.Stepping.{Ends, at_stops, holds, is_at_end, is_done, most_sent, nowhere, of_go, steps_holding, steps_while}
+use Rattle.debugger.specs.Stepping.{holds, is_at_end, is_done, most_sent, steps_holding, steps_while}
+use Rattle.debugger.specs.Stops.{Mark, Ends, at_stops, nowhere, of_go}
 use Rattle.debugger.proofs.Changes.{holding_is_stream}
 use Rattle.debugger.proofs.Streams.{IsStream, counted_are_streams, steps_are_streams}
 
 -- ---- steps alone
 
-pub own_are_streams : (events : Events) (replay : Option ReplayState) (stops : List Stop) (s : State)
-    → IsStream (own_steps events replay stops s) replay s
+pub own_are_streams : (events : Events) (replay : Option ReplayState) (marks : List Mark) (s : State)
+    → IsStream (own_steps events replay marks s) replay s
 unfolding own_steps
-own_are_streams (Steps n) replay stops s = counted_are_streams replay n s
-own_are_streams (Until stop n) replay stops s =
-    steps_are_streams (at_stops (stop ∷ [])) (at_stops (stop ∷ [])) replay n (most_sent n) s
-own_are_streams (Go n) replay stops s = steps_are_streams nowhere (of_go stops) replay n (most_sent n) s
-own_are_streams (Ticks n) replay stops s = steps_are_streams nowhere nowhere replay 0 0 s
-own_are_streams (Byte b) replay stops s = steps_are_streams nowhere nowhere replay 0 0 s
-own_are_streams (Changed place n) replay stops s = steps_are_streams nowhere nowhere replay 0 0 s
+own_are_streams (Steps n) replay marks s = counted_are_streams replay n s
+own_are_streams (Until stop n) replay marks s =
+    steps_are_streams (at_stops marks) (at_stops marks) replay n (most_sent n) s
+own_are_streams (Go n) replay marks s = steps_are_streams nowhere (of_go marks) replay n (most_sent n) s
+own_are_streams (Ticks n) replay marks s = steps_are_streams nowhere nowhere replay 0 0 s
+own_are_streams (Byte b) replay marks s = steps_are_streams nowhere nowhere replay 0 0 s
+own_are_streams (Changed place n) replay marks s = steps_are_streams nowhere nowhere replay 0 0 s
 
 -- ---- with the tick that is to come yet
 
@@ -64,18 +64,18 @@ stream_replayed (suc n) p =
 
 -- ---- the events of a command that the schedule has, if there is one
 
-pub goes : (events : Events) (replay : Option ReplayState) (owed : Bool) (stops : List Stop) (s : State) → are_scheduled events ≡ true
-    → given events replay owed stops s ≡ events_from (length (given events replay owed stops s)) (at replay owed)
+pub goes : (events : Events) (replay : Option ReplayState) (owed : Bool) (marks : List Mark) (s : State) → are_scheduled events ≡ true
+    → given events replay owed marks s ≡ events_from (length (given events replay owed marks s)) (at replay owed)
 unfolding given
-goes (Steps n) replay owed stops s own =
-    owed_stream owed replay _ (own_are_streams (Steps n) replay stops (run_after (owed_events owed) s)).events
-goes (Until stop n) replay owed stops s own =
-    owed_stream owed replay _ (own_are_streams (Until stop n) replay stops (run_after (owed_events owed) s)).events
-goes (Go n) replay owed stops s own =
-    owed_stream owed replay _ (own_are_streams (Go n) replay stops (run_after (owed_events owed) s)).events
-goes (Changed place n) replay owed stops s own = holding_is_stream place (held place s) n (at replay owed) s
-goes (Ticks n) replay owed stops s own = absurd (cc)
-goes (Byte b) replay owed stops s own = absurd (cc)
+goes (Steps n) replay owed marks s own =
+    owed_stream owed replay _ (own_are_streams (Steps n) replay marks (run_after (owed_events owed) s)).events
+goes (Until stop n) replay owed marks s own =
+    owed_stream owed replay _ (own_are_streams (Until stop n) replay marks (run_after (owed_events owed) s)).events
+goes (Go n) replay owed marks s own =
+    owed_stream owed replay _ (own_are_streams (Go n) replay marks (run_after (owed_events owed) s)).events
+goes (Changed place n) replay owed marks s own = holding_is_stream place (held place s) n (at replay owed) s
+goes (Ticks n) replay owed marks s own = absurd (cc)
+goes (Byte b) replay owed marks s own = absurd (cc)
 
 -- ---- after the halt
 
@@ -103,16 +103,16 @@ none_held_after_halt place v zero p s h = refl
 none_held_after_halt place v (suc n) p s h =
     nothing _ (is_done p s || not (holds place v s)) (first_of_three (is_halted s) _ (not (holds place v s)) h)
 
-pub given_after_halt : (events : Events) (r : ReplayState) (stops : List Stop) (s : State) → are_scheduled events ≡ true
-    → is_halted s ≡ true → given events (Some r) false stops s ≡ []
+pub given_after_halt : (events : Events) (r : ReplayState) (marks : List Mark) (s : State) → are_scheduled events ≡ true
+    → is_halted s ≡ true → given events (Some r) false marks s ≡ []
 unfolding given own_steps
-given_after_halt (Steps n) r stops s own h = none_after_halt nowhere nowhere (Some r) n n s h
-given_after_halt (Until stop n) r stops s own h =
-    none_after_halt (at_stops (stop ∷ [])) (at_stops (stop ∷ [])) (Some r) n (most_sent n) s h
-given_after_halt (Go n) r stops s own h = none_after_halt nowhere (of_go stops) (Some r) n (most_sent n) s h
-given_after_halt (Changed place n) r stops s own h = none_held_after_halt place (held place s) n (at (Some r) false) s h
-given_after_halt (Ticks n) r stops s own h = absurd (cc)
-given_after_halt (Byte b) r stops s own h = absurd (cc)
+given_after_halt (Steps n) r marks s own h = none_after_halt nowhere nowhere (Some r) n n s h
+given_after_halt (Until stop n) r marks s own h =
+    none_after_halt (at_stops marks) (at_stops marks) (Some r) n (most_sent n) s h
+given_after_halt (Go n) r marks s own h = none_after_halt nowhere (of_go marks) (Some r) n (most_sent n) s h
+given_after_halt (Changed place n) r marks s own h = none_held_after_halt place (held place s) n (at (Some r) false) s h
+given_after_halt (Ticks n) r marks s own h = absurd (cc)
+given_after_halt (Byte b) r marks s own h = absurd (cc)
 
 -- ---- the tick that is to come yet, and steps
 
@@ -142,11 +142,11 @@ pub not_owed : {es : List Event} {replay : Option ReplayState} {s : State} → I
     → ((position_after (length es) (at replay false)).owed && not (is_halted (run_after es s))) ≡ false
 not_owed {es} {replay} {s} stream = ap (λ p. p.owed && not (is_halted (run_after es s))) stream.position ∙ stream.halted
 
-pub tick_paid : (events : Events) (replay : Option ReplayState) (owed : Bool) (stops : List Stop) (s : State)
-    → ((position_after (length (with_tick events replay owed stops s)) (at replay owed)).owed
-    && not (is_halted (run_after (with_tick events replay owed stops s) s))) ≡ false
-tick_paid events replay true stops s = not_owed (own_are_streams events replay stops (run_after (owed_events true) s))
-tick_paid events replay false stops s = not_owed (own_are_streams events replay stops s)
+pub tick_paid : (events : Events) (replay : Option ReplayState) (owed : Bool) (marks : List Mark) (s : State)
+    → ((position_after (length (with_tick events replay owed marks s)) (at replay owed)).owed
+    && not (is_halted (run_after (with_tick events replay owed marks s) s))) ≡ false
+tick_paid events replay true marks s = not_owed (own_are_streams events replay marks (run_after (owed_events true) s))
+tick_paid events replay false marks s = not_owed (own_are_streams events replay marks s)
 
 -- ---- events while a place holds a value
 
@@ -174,15 +174,15 @@ other_own (Steps n) a b c = refl
 other_own (Until stop n) a b c = refl
 other_own (Go n) a b c = refl
 
-pub own_given : (events : Events) (replay : Option ReplayState) (owed : Bool) (stops : List Stop) (s : State) → are_own events ≡ true
-    → with_tick events replay owed stops s ≡ given events replay owed stops s
+pub own_given : (events : Events) (replay : Option ReplayState) (owed : Bool) (marks : List Mark) (s : State) → are_own events ≡ true
+    → with_tick events replay owed marks s ≡ given events replay owed marks s
 unfolding given
-own_given (Steps n) replay owed stops s own = refl
-own_given (Until stop n) replay owed stops s own = refl
-own_given (Go n) replay owed stops s own = refl
-own_given (Ticks n) replay owed stops s own = absurd (cc)
-own_given (Byte b) replay owed stops s own = absurd (cc)
-own_given (Changed place n) replay owed stops s own = absurd (cc)
+own_given (Steps n) replay owed marks s own = refl
+own_given (Until stop n) replay owed marks s own = refl
+own_given (Go n) replay owed marks s own = refl
+own_given (Ticks n) replay owed marks s own = absurd (cc)
+own_given (Byte b) replay owed marks s own = absurd (cc)
+own_given (Changed place n) replay owed marks s own = absurd (cc)
 
 own_scheduled : (events : Events) → are_own events ≡ true → are_scheduled events ≡ true
 own_scheduled (Steps n) own = refl
@@ -203,35 +203,35 @@ pub scheduled_owed : (events : Events) (es : List Event) (replay : Option Replay
 unfolding owed_after
 scheduled_owed events es replay owed s own = rw own refl
 
-pub paid_replay : (events : Events) (replay : Option ReplayState) (owed : Bool) (stops : List Stop) (s : State) → are_own events ≡ true
-    → option_map (replayed (with_tick events replay owed stops s)) replay
-    ≡ replay_after events (given events replay owed stops s) replay
-paid_replay events replay owed stops s own =
-    ap (λ es. option_map (replayed es) replay) (own_given events replay owed stops s own)
-    ∙ scheduled_replay events (given events replay owed stops s) replay (own_scheduled events own)
+pub paid_replay : (events : Events) (replay : Option ReplayState) (owed : Bool) (marks : List Mark) (s : State) → are_own events ≡ true
+    → option_map (replayed (with_tick events replay owed marks s)) replay
+    ≡ replay_after events (given events replay owed marks s) replay
+paid_replay events replay owed marks s own =
+    ap (λ es. option_map (replayed es) replay) (own_given events replay owed marks s own)
+    ∙ scheduled_replay events (given events replay owed marks s) replay (own_scheduled events own)
 
-pub paid_owed : (events : Events) (replay : Option ReplayState) (owed : Bool) (stops : List Stop) (s : State) → are_own events ≡ true
-    → false ≡ owed_after events (given events replay owed stops s) replay owed s
-paid_owed events replay owed stops s own =
-    sym (tick_paid events replay owed stops s)
-    ∙ scheduled_owed events (with_tick events replay owed stops s) replay owed s (own_scheduled events own)
-    ∙ ap (λ es. owed_after events es replay owed s) (own_given events replay owed stops s own)
+pub paid_owed : (events : Events) (replay : Option ReplayState) (owed : Bool) (marks : List Mark) (s : State) → are_own events ≡ true
+    → false ≡ owed_after events (given events replay owed marks s) replay owed s
+paid_owed events replay owed marks s own =
+    sym (tick_paid events replay owed marks s)
+    ∙ scheduled_owed events (with_tick events replay owed marks s) replay owed s (own_scheduled events own)
+    ∙ ap (λ es. owed_after events es replay owed s) (own_given events replay owed marks s own)
 
 -- ---- changes
 
-changed_given : (events : Events) (place : Place) (n : ℕ) (replay : Option ReplayState) (owed : Bool) (stops : List Stop) (s : State)
-    → events ≡ Changed place n → steps_holding place (held place s) n (at replay owed) s ≡ given events replay owed stops s
+changed_given : (events : Events) (place : Place) (n : ℕ) (replay : Option ReplayState) (owed : Bool) (marks : List Mark) (s : State)
+    → events ≡ Changed place n → steps_holding place (held place s) n (at replay owed) s ≡ given events replay owed marks s
 unfolding given
-changed_given events place n replay owed stops s e = sym (ap (λ given_by. given given_by replay owed stops s) e)
+changed_given events place n replay owed marks s e = sym (ap (λ given_by. given given_by replay owed marks s) e)
 
-pub changed_replay : (events : Events) (place : Place) (n : ℕ) (replay : Option ReplayState) (owed : Bool) (stops : List Stop) (s : State)
+pub changed_replay : (events : Events) (place : Place) (n : ℕ) (replay : Option ReplayState) (owed : Bool) (marks : List Mark) (s : State)
     → events ≡ Changed place n → (r : Option ReplayState) (o : Bool)
     → at r o ≡ position_after (length (steps_holding place (held place s) n (at replay owed) s)) (at replay owed)
-    → r ≡ replay_after events (given events replay owed stops s) replay
-changed_replay events place n replay owed stops s e r o position =
+    → r ≡ replay_after events (given events replay owed marks s) replay
+changed_replay events place n replay owed marks s e r o position =
     ap (λ (p : Position). p.replay) position ∙ held_replay place (held place s) n (at replay owed) s
-    ∙ ap (λ es. option_map (replayed es) replay) (changed_given events place n replay owed stops s e)
-    ∙ scheduled_replay events (given events replay owed stops s) replay (ap are_scheduled e)
+    ∙ ap (λ es. option_map (replayed es) replay) (changed_given events place n replay owed marks s e)
+    ∙ scheduled_replay events (given events replay owed marks s) replay (ap are_scheduled e)
 
 pub not_both : (a b : Bool) → a ≡ not b → b ≡ not a
 not_both true true e = absurd (cc)
@@ -243,15 +243,15 @@ true_and : (a b : Bool) → a ≡ true → b ≡ (a && b)
 true_and true b e = refl
 true_and false b e = absurd (cc)
 
-pub changed_owed : (events : Events) (place : Place) (n : ℕ) (replay : Option ReplayState) (owed : Bool) (stops : List Stop) (s : State)
+pub changed_owed : (events : Events) (place : Place) (n : ℕ) (replay : Option ReplayState) (owed : Bool) (marks : List Mark) (s : State)
     → events ≡ Changed place n → (r : Option ReplayState) (o : Bool)
     → at r o ≡ position_after (length (steps_holding place (held place s) n (at replay owed) s)) (at replay owed) → (m : State)
     → m ≡ run_after (steps_holding place (held place s) n (at replay owed) s) s → o ≡ true
-    → not (is_halted m) ≡ owed_after events (given events replay owed stops s) replay owed s
-changed_owed events place n replay owed stops s e r o position m state on =
+    → not (is_halted m) ≡ owed_after events (given events replay owed marks s) replay owed s
+changed_owed events place n replay owed marks s e r o position m state on =
     let es : List Event = steps_holding place (held place s) n (at replay owed) s in
     true_and o (not (is_halted m)) on
     ∙ ap (λ (p : Position). p.owed && not (is_halted m)) position
     ∙ ap (λ t. (position_after (length es) (at replay owed)).owed && not (is_halted t)) state
     ∙ scheduled_owed events es replay owed s (ap are_scheduled e)
-    ∙ ap (λ given_es. owed_after events given_es replay owed s) (changed_given events place n replay owed stops s e)
+    ∙ ap (λ given_es. owed_after events given_es replay owed s) (changed_given events place n replay owed marks s e)

@@ -4,7 +4,7 @@ use Rattle.std.proofs.Common.{subst, append-nil}
 use Rattle.std.specs.Prelude.{Option, None, Some, option_map, replicate, if◌then◌else◌}
 use Rattle.debug_commands.specs.declared.command.Events.{Events}
 use Rattle.debug_commands.specs.declared.command.Events.TheVariants.{Steps, Ticks, Byte, Until, Go, Changed}
-use Rattle.debug_commands.specs.declared.command.Stop.{Stop}
+use Rattle.debugger.specs.Stops.{Mark}
 use Rattle.std.proofs.lemmas.Bool.{true≢false}
 use Rattle.devices.specs.Devices.{received}
 use Rattle.steps.specs.Event.{after}
@@ -91,8 +91,8 @@ module _ (past : PastState) (replay : Option ReplayState) (owed : Bool) (s : Sta
 
   -- ---- steps
 
-  abbrev es_of : Events → List Stop → List Event
-  es_of events stops = given events replay owed stops s
+  abbrev es_of : Events → List Mark → List Event
+  es_of events marks = given events replay owed marks s
 
   abbrev FitsOwn : Events → List Event → Type 0
   FitsOwn events es =
@@ -152,28 +152,28 @@ module _ (past : PastState) (replay : Option ReplayState) (owed : Bool) (s : Sta
       go false = refl
   halted_off false e = absurd (cc)
 
-  not_alone : (r : Option ReplayState) → replay ≡ r → p.owed ≡ true → (events : Events) (stops : List Stop) → are_scheduled events ≡ true
-      → is_halted s ≡ true → es_of events stops ≡ []
-  not_alone None e due events stops own halted =
+  not_alone : (r : Option ReplayState) → replay ≡ r → p.owed ≡ true → (events : Events) (marks : List Mark) → are_scheduled events ≡ true
+      → is_halted s ≡ true → es_of events marks ≡ []
+  not_alone None e due events marks own halted =
       let is_alone : p ≡ at None false = ap (λ o. position_of past.given (beginning o)) e ∙ alone past.given in
       absurd (true≢false (sym due ∙ ap (λ q. q.owed) is_alone))
-  not_alone (Some r) e due events stops own halted =
+  not_alone (Some r) e due events marks own halted =
       let off : owed ≡ false = stands.tick ∙ halted_off (is_halted s) halted in
-      ap₂ (λ o b. given events o b stops s) e off ∙ given_after_halt events r stops s own halted
+      ap₂ (λ o b. given events o b marks s) e off ∙ given_after_halt events r marks s own halted
 
-  stays_whole : (o h : Bool) → p.owed ≡ o → is_halted s ≡ h → (events : Events) (stops : List Stop) → are_scheduled events ≡ true
-      → FitsOwn events (es_of events stops)
-  stays_whole true true due halted events stops own =
-      fits_none events (es_of events stops) own halted (not_alone replay refl due events stops own halted)
-  stays_whole true false due halted events stops own =
+  stays_whole : (o h : Bool) → p.owed ≡ o → is_halted s ≡ h → (events : Events) (marks : List Mark) → are_scheduled events ≡ true
+      → FitsOwn events (es_of events marks)
+  stays_whole true true due halted events marks own =
+      fits_none events (es_of events marks) own halted (not_alone replay refl due events marks own halted)
+  stays_whole true false due halted events marks own =
       let same : owed ≡ p.owed = stands.tick ∙ rw (due, halted) refl in
-      fits_same events (es_of events stops) own (ap₂ at stands.steps (sym same)) (goes events replay owed stops s own)
-  stays_whole false h due halted events stops own =
+      fits_same events (es_of events marks) own (ap₂ at stands.steps (sym same)) (goes events replay owed marks s own)
+  stays_whole false h due halted events marks own =
       let same : owed ≡ p.owed = stands.tick ∙ rw due refl in
-      fits_same events (es_of events stops) own (ap₂ at stands.steps (sym same)) (goes events replay owed stops s own)
+      fits_same events (es_of events marks) own (ap₂ at stands.steps (sym same)) (goes events replay owed marks s own)
 
-  own_kept : (events : Events) (stops : List Stop) → are_scheduled events ≡ true → FitsOwn events (es_of events stops)
-  own_kept events stops own = stays_whole p.owed (is_halted s) refl refl events stops own
+  own_kept : (events : Events) (marks : List Mark) → are_scheduled events ≡ true → FitsOwn events (es_of events marks)
+  own_kept events marks own = stays_whole p.owed (is_halted s) refl refl events marks own
 
   -- ---- ticks and bytes beside them
 
@@ -187,23 +187,23 @@ module _ (past : PastState) (replay : Option ReplayState) (owed : Bool) (s : Sta
 
   -- ---- all
 
-  pub keeps : (events : Events) (stops : List Stop)
-      → StandsAfter (record past { given = past.given ++ given_of events (length (es_of events stops)) ∷ [] })
-      (replay_after events (es_of events stops) replay) (owed_after events (es_of events stops) replay owed s)
-      (run_after (es_of events stops) s)
+  pub keeps : (events : Events) (marks : List Mark)
+      → StandsAfter (record past { given = past.given ++ given_of events (length (es_of events marks)) ∷ [] })
+      (replay_after events (es_of events marks) replay) (owed_after events (es_of events marks) replay owed s)
+      (run_after (es_of events marks) s)
   unfolding given replay_after owed_after
-  keeps (Steps n) stops = kept (Steps n) _ (es_of (Steps n) stops) (own_kept (Steps n) stops refl)
-  keeps (Until stop n) stops = kept (Until stop n) _ (es_of (Until stop n) stops) (own_kept (Until stop n) stops refl)
-  keeps (Go n) stops = kept (Go n) _ (es_of (Go n) stops) (own_kept (Go n) stops refl)
-  keeps (Changed place n) stops = kept (Changed place n) _ (es_of (Changed place n) stops) (own_kept (Changed place n) stops refl)
-  keeps (Ticks n) stops =
+  keeps (Steps n) marks = kept (Steps n) _ (es_of (Steps n) marks) (own_kept (Steps n) marks refl)
+  keeps (Until stop n) marks = kept (Until stop n) _ (es_of (Until stop n) marks) (own_kept (Until stop n) marks refl)
+  keeps (Go n) marks = kept (Go n) _ (es_of (Go n) marks) (own_kept (Go n) marks refl)
+  keeps (Changed place n) marks = kept (Changed place n) _ (es_of (Changed place n) marks) (own_kept (Changed place n) marks refl)
+  keeps (Ticks n) marks =
       kept (Ticks n) (gave.Ticks (length (replicate n event.Tick))) (replicate n event.Tick)
       (record {
         events = ap (λ k. replicate k event.Tick) (length-replicate n event.Tick);
         replay_is = stands.steps;
         owed_is = stands.tick ∙ ap (λ h. p.owed && not h) (sym (ticks_run n s));
       })
-  keeps (Byte b) stops =
+  keeps (Byte b) marks =
       kept (Byte b) (gave.Byte b) (event.Byte b ∷ [])
       (record {
         events = refl;

@@ -9,12 +9,13 @@ use Rattle.schedules.specs.Schedule.{first_steps, is_halted, steps_in, up_to_hal
 use Rattle.debug_commands.specs.declared.command.Command.TheVariants.{Gives}
 use Rattle.debug_commands.specs.declared.command.Events.{Events}
 use Rattle.debug_commands.specs.declared.command.Events.TheVariants.{Steps, Ticks, Byte, Until, Go, Changed}
-use Rattle.debug_commands.specs.declared.command.Stop.{Stop}
 use Rattle.debugger.specs.SessionState.{SessionState, session_with}
 use Rattle.past.specs.Replay.{ReplayState}
-use Rattle.debugger.specs.Stepping.{Ends, at_stops, most_sent, nowhere, of_go, steps_while}
+use Rattle.debugger.specs.Stepping.{most_sent, steps_while}
+use Rattle.debugger.specs.Stops.{Mark, Ends, at_stops, nowhere, of_go}
 use Rattle.past.specs.Replay.{replayed}
-use Rattle.debugger.specs.Reply.{after_events, are_scheduled, given, given_in, owed_after, own_steps, replay_after, session_after}
+use Rattle.debugger.specs.Reply.{after_events, are_scheduled, given, given_in, marks_for, owed_after, own_steps, replay_after}
+use Rattle.debugger.specs.Reply.{session_after}
 use Rattle.debugger.specs.Reply.{timeline_of}
 use Rattle.debugger.specs.OnSchedule.{IsOnSchedule, are_whole_steps, events_so_far, session_after_all, steps_of_all}
 use Rattle.debugger.proofs.Gives.{not_owed, own_are_streams}
@@ -25,15 +26,15 @@ abbrev IsStepping : List Event → ReplayState → State → Type 0
 IsStepping events r s =
     (first : Ends) × (later : Ends) × (n : ℕ) × (room : ℕ) × (events ≡ steps_while first later (Some r) n room s)
 
-is-stepping : (events : Events) (replay : Option ReplayState) (r : ReplayState) (stops : List Stop) (s : State)
-    → are_whole_steps events ≡ true → replay ≡ Some r → IsStepping (given events replay false stops s) r s
+is-stepping : (events : Events) (replay : Option ReplayState) (r : ReplayState) (marks : List Mark) (s : State)
+    → are_whole_steps events ≡ true → replay ≡ Some r → IsStepping (given events replay false marks s) r s
 unfolding given own_steps
-is-stepping (Steps n) replay r stops s whole is = (nowhere, nowhere, n, n, rw is refl)
-is-stepping (Ticks n) replay r stops s whole is = absurd (cc)
-is-stepping (Byte b) replay r stops s whole is = absurd (cc)
-is-stepping (Until stop n) replay r stops s whole is = (at_stops (stop ∷ []), at_stops (stop ∷ []), n, most_sent n, rw is refl)
-is-stepping (Go n) replay r stops s whole is = (nowhere, of_go stops, n, most_sent n, rw is refl)
-is-stepping (Changed place n) replay r stops s whole is = absurd (cc)
+is-stepping (Steps n) replay r marks s whole is = (nowhere, nowhere, n, n, rw is refl)
+is-stepping (Ticks n) replay r marks s whole is = absurd (cc)
+is-stepping (Byte b) replay r marks s whole is = absurd (cc)
+is-stepping (Until stop n) replay r marks s whole is = (at_stops marks, at_stops marks, n, most_sent n, rw is refl)
+is-stepping (Go n) replay r marks s whole is = (nowhere, of_go marks, n, most_sent n, rw is refl)
+is-stepping (Changed place n) replay r marks s whole is = absurd (cc)
 
 is-scheduled : (events : Events) → are_whole_steps events ≡ true → are_scheduled events ≡ true
 is-scheduled (Steps n) whole = refl
@@ -44,15 +45,15 @@ is-scheduled (Go n) whole = refl
 is-scheduled (Changed place n) whole = absurd (cc)
 
 -- after whole steps no tick is to come yet
-none-owed : (events : Events) (replay : Option ReplayState) (stops : List Stop) (s : State) → are_whole_steps events ≡ true
-    → owed_after events (given events replay false stops s) replay false s ≡ false
+none-owed : (events : Events) (replay : Option ReplayState) (marks : List Mark) (s : State) → are_whole_steps events ≡ true
+    → owed_after events (given events replay false marks s) replay false s ≡ false
 unfolding given owed_after
-none-owed (Steps n) replay stops s whole = not_owed (own_are_streams (Steps n) replay stops s)
-none-owed (Ticks n) replay stops s whole = absurd (cc)
-none-owed (Byte b) replay stops s whole = absurd (cc)
-none-owed (Until stop n) replay stops s whole = not_owed (own_are_streams (Until stop n) replay stops s)
-none-owed (Go n) replay stops s whole = not_owed (own_are_streams (Go n) replay stops s)
-none-owed (Changed place n) replay stops s whole = absurd (cc)
+none-owed (Steps n) replay marks s whole = not_owed (own_are_streams (Steps n) replay marks s)
+none-owed (Ticks n) replay marks s whole = absurd (cc)
+none-owed (Byte b) replay marks s whole = absurd (cc)
+none-owed (Until stop n) replay marks s whole = not_owed (own_are_streams (Until stop n) replay marks s)
+none-owed (Go n) replay marks s whole = not_owed (own_are_streams (Go n) replay marks s)
+none-owed (Changed place n) replay marks s whole = absurd (cc)
 
 stands-after : (events : Events) (es : List Event) (replay : Option ReplayState) (r : ReplayState) → are_scheduled events ≡ true
     → replay ≡ Some r → replay_after events es replay ≡ Some (replayed es r)
@@ -77,9 +78,10 @@ module _ (start : State) (schedule : Schedule) (input : List ℕ) where
         → On (done + steps_in (given_in events s)) (session_after (Gives events) s)
     one-more done events s whole on =
         let r = on.replay in
-        let es = given events s.replay false s.stops s.machine in
-        let same : given_in events s ≡ es = ap (λ o. given events s.replay o s.stops s.machine) on.whole in
-        let stepping = is-stepping events s.replay r s.stops s.machine whole on.is in
+        let marks = marks_for events s.stops s.machine in
+        let es = given events s.replay false marks s.machine in
+        let same : given_in events s ≡ es = ap (λ o. given events s.replay o marks s.machine) on.whole in
+        let stepping = is-stepping events s.replay r marks s.machine whole on.is in
         subst (λ given. On (done + steps_in given) (session_with (after_events events given (timeline_of s)) s.symbols s.stops)) (sym same)
         (record {
           replay = replayed es r;
@@ -87,7 +89,7 @@ module _ (start : State) (schedule : Schedule) (input : List ℕ) where
           schedule_is = schedule-stays es r ∙ on.schedule_is;
           input_is = input-stays es r ∙ on.input_is;
           done_is = done-counts es r ∙ ap (λ n. n + steps_in es) on.done_is;
-          whole = ap (λ o. owed_after events es s.replay o s.machine) on.whole ∙ none-owed events s.replay s.stops s.machine whole;
+          whole = ap (λ o. owed_after events es s.replay o s.machine) on.whole ∙ none-owed events s.replay marks s.machine whole;
           machine = subst
               (λ (steps : List Event). run_after steps s.machine ≡ run_after (up_to_halt (events_so_far (replayed steps r)) start) start)
               (sym stepping.4)

@@ -10,7 +10,8 @@ use Rattle.steps.specs.Event.{after, sent}
 use Rattle.machine.specs.Run.{run_after, run_sent}
 use Rattle.schedules.proofs.Events.{run_after-append, run_sent-append, run_sent-brought}
 use Rattle.past.specs.Replay.{ReplayState}
-use Rattle.debugger.specs.Stepping.{Ends, is_at_end, is_end, step_events, steps_while}
+use Rattle.debugger.specs.Stepping.{is_at_end, step_events, steps_while}
+use Rattle.debugger.specs.Stops.{Ends, is_end}
 use Rattle.past.specs.Replay.{byte_due, byte_events, replayed, step_done}
 use Rattle.debugger.proofs.RunSteps.{if_not}
 use Rattle.debugger.proofs.Replays.{replayed-append, byte-is-passed, tick-is-passed}

@@ -10,7 +10,8 @@ use Rattle.machine.specs.Run.{run_after}
 use Rattle.schedules.specs.Schedule.{byte_before, first_steps, is_halted, is_tick_after, steps_in, up_to_halt}
 use Rattle.schedules.proofs.Events.{is_halted-brought, no_more, run_after-append, state_after}
 use Rattle.past.specs.Replay.{ReplayState}
-use Rattle.debugger.specs.Stepping.{Ends, is_at_end, is_end, ready, step_events, steps_while}
+use Rattle.debugger.specs.Stepping.{is_at_end, ready, step_events, steps_while}
+use Rattle.debugger.specs.Stops.{Ends, is_end}
 use Rattle.past.specs.Replay.{byte_due, byte_events, replayed, step_done}
 use Rattle.debugger.specs.OnSchedule.{events_so_far}
 

@@ -11,10 +11,9 @@ use Rattle.steps.specs.Outcome.{is_trap}
 use Rattle.steps.specs.Steps.{GoesBy}
 use Rattle.steps.specs.Event.{after, outcome, sent}
 use Rattle.machine.specs.Run.{run_after, run_sent}
-use Rattle.debug_commands.specs.declared.command.Stop.{Stop}
-use Rattle.debug_commands.specs.declared.command.Stop.TheVariants.{Address, Trap}
-use Rattle.debug_commands.specs.Command.{stop_address}
-use Rattle.debugger.specs.Stepping.{Ends, is_any_stop, is_at_end, is_end, is_stop, steps_while}
+use Rattle.schedules.specs.Schedule.{is_halted}
+use Rattle.debugger.specs.Stepping.{is_at_end, steps_while}
+use Rattle.debugger.specs.Stops.{Ends, is_any_stop, is_end}
 use Rattle.sim_run.specs.Stopping.{is_stop as is_trap_met}
 use Rattle.sim_run.specs.declared.stopping.StopAt.TheVariants.{Unfetched}
 use Rattle.debugger.specs.Lines.{goes_on}
@@ -122,50 +121,24 @@ by_count : (k : ℕ) (rest : List Event) → length (replicate k Step ++ rest) �
 by_count zero rest = omega arith
 by_count (suc k) rest = let less = by_count k rest in omega (arith, less)
 
--- steps do not stop before a state that they go by
-elsewhere-not : (a b : ℕ) → (a ≡ b → ⊥) → a == b ≡ false
-elsewhere-not a b other = grind (arith, nat_tests, other)
-
-or_false : (b : Bool) → (b || false) ≡ b
-or_false true = refl
-or_false false = refl
-
-pub goes-on-by : (stop : Stop) (s : State) → GoesBy (stop_address stop) s → is_any_stop (stop ∷ []) s ≡ false
-goes-on-by (Address address) s by = or_false (is_stop (Address address) s) ∙ elsewhere-not (pc_of s) address by.elsewhere
-goes-on-by Trap s by = or_false (is_stop Trap s) ∙ ap is_trap by.plain
-
--- nor before a trap
+-- steps that go by all stops don't end before a trap either
 neither-end : (stops unfetched trap : Bool) → stops ≡ false → trap ≡ false → (stops || (unfetched && trap)) ≡ false
 neither-end stops true trap a b = rw (a, b) refl
 neither-end stops false trap a b = rw a refl
 
-none-met : (at : Option ℕ) (s : State) → GoesBy at s → is_trap_met Unfetched false s ≡ false
+none-met : (s : State) → GoesBy None s → is_trap_met Unfetched false s ≡ false
 unfolding is_trap_met
-none-met at s by =
+none-met s by =
     let plain : is_trap (outcome Step s) ≡ false = ap is_trap by.plain in
     rw plain refl
 
-no-stop : (stops : List Stop) → length stops < 1 → (s : State) → is_any_stop stops s ≡ false
-no-stop [] few s = refl
-no-stop (stop ∷ stops) few s = absurd (omega (arith, few))
+pub passes : (ends : Ends) (s : State) → GoesBy None s → is_any_stop ends.marks s ≡ false → is_end ends s ≡ false
+passes ends s by none =
+    neither-end (is_any_stop ends.marks s) ends.unfetched (is_trap_met Unfetched false s) none (none-met s by)
 
-one-stop : (d : Stop) (stops : List Stop) → 1 ≤ length stops → length stops < 2 → (at : Option ℕ)
-    → at ≡ stop_address (get_or stops 0 d)
-    → (s : State) → GoesBy at s → is_any_stop stops s ≡ false
-one-stop d [] some few at is s by = absurd (omega (arith, some))
-one-stop d (stop ∷ []) some few at is s by = goes-on-by stop s (subst (λ a. GoesBy a s) is by)
-one-stop d (stop ∷ other ∷ stops) some few at is s by = absurd (omega (arith, few))
-
-pub passes-none : (ends : Ends) → length ends.stops < 1 → (s : State) → GoesBy None s → is_end ends s ≡ false
-passes-none ends few s by =
-    neither-end (is_any_stop ends.stops s) ends.unfetched (is_trap_met Unfetched false s) (no-stop ends.stops few s) (none-met None s by)
-
-pub passes-one : (d : Stop) (ends : Ends) → 1 ≤ length ends.stops → length ends.stops < 2 → (at : Option ℕ)
-    → at ≡ stop_address (get_or ends.stops 0 d)
-    → (s : State) → GoesBy at s → is_end ends s ≡ false
-passes-one d ends some few at is s by =
-    neither-end (is_any_stop ends.stops s) ends.unfetched (is_trap_met Unfetched false s) (one-stop d ends.stops some few at is s by)
-    (none-met at s by)
+-- a state that steps between two addresses go by
+abbrev pub GoesBetween : ℕ → ℕ → State → Type 0
+GoesBetween low high s = GoesBy None s × ((low ≤ pc_of s) × (pc_of s < high))
 
 pub positive : (n : ℕ) → (n ≡ 0 → ⊥) → 0 < n
 positive zero other = absurd (other refl)
@@ -191,10 +164,10 @@ same_room room s silent =
     let none : room - 0 ≡ room = omega arith in
     ap (λ (bytes : List ℕ). room - length bytes) silent ∙ none
 
-module _ (ends : Ends) (at : Option ℕ) (by : (s : State) → GoesBy at s → is_end ends s ≡ false) (room : ℕ) (some : 0 < room)
+module _ (ends : Ends) (low high : ℕ) (by : (s : State) → GoesBetween low high s → is_end ends s ≡ false) (room : ℕ) (some : 0 < room)
   where
     steps_by : (n k : ℕ) (s : State) → k ≤ n → run_sent (replicate k Step) s ≡ []
-        → ((j : ℕ) → j < k → GoesBy at (run_after (replicate j Step) s))
+        → ((j : ℕ) → j < k → GoesBetween low high (run_after (replicate j Step) s))
         → steps_while ends ends None n room s
         ≡ replicate k Step ++ steps_while ends ends None (n - k) room (run_after (replicate k Step) s)
     steps_by n zero s few silent goes =
@@ -206,14 +179,14 @@ module _ (ends : Ends) (at : Option ℕ) (by : (s : State) → GoesBy at s → i
         let now = goes 0 (omega arith) in
         let none = first_nil (option_to_list (sent Step s)) (run_sent (replicate k Step) (after Step s)) silent in
         let later = second_nil (option_to_list (sent Step s)) (run_sent (replicate k Step) (after Step s)) silent in
-        if_not (is_at_end None room s) [] _ (not-at-end room s some now.running) ∙ if_not (is_end ends s) [] _ (by s now)
+        if_not (is_at_end None room s) [] _ (not-at-end room s some now.0.running) ∙ if_not (is_end ends s) [] _ (by s now)
         ∙ ap (λ r. Step ∷ steps_while ends ends None n r (after Step s)) (same_room room s none)
         ∙ ap (λ steps. Step ∷ steps)
         (steps_by n k (after Step s) (omega arith) later (λ j below. goes (suc j) (omega arith))
         ∙ ap (λ m. replicate k Step ++ steps_while ends ends None m room (run_after (replicate k Step) (after Step s))) (sym less))
 
     module _ (n k : ℕ) (s m : State) (few : k ≤ n) (state : m ≡ run_after (replicate k Step) s)
-        (silent : run_sent (replicate k Step) s ≡ []) (goes : (j : ℕ) → j < k → GoesBy at (run_after (replicate j Step) s)) where
+        (silent : run_sent (replicate k Step) s ≡ []) (goes : (j : ℕ) → j < k → GoesBetween low high (run_after (replicate j Step) s)) where
       towards : steps_while ends ends None n room s ≡ replicate k Step ++ steps_while ends ends None (n - k) room m
       towards =
           steps_by n k s few silent goes ∙ ap (λ t. replicate k Step ++ steps_while ends ends None (n - k) room t) (sym state)
@@ -236,3 +209,23 @@ module _ (ends : Ends) (at : Option ℕ) (by : (s : State) → GoesBy at s → i
 pub some_step : (ends : Ends) (n room : ℕ) (s : State) → goes_on ends n room s ≡ true → 0 < n
 some_step ends zero room s h = absurd (cc)
 some_step ends (suc n) room s h = omega arith
+
+-- ---- where no step is given
+
+none_of : (b : Bool) → (b && false) ≡ false
+none_of true = refl
+none_of false = refl
+
+none_halted : (l r e : Bool) → (l && (not (r || true) && not e)) ≡ false
+none_halted true true e = refl
+none_halted true false e = refl
+none_halted false r e = refl
+
+pub none_left : (e : Ends) (left room : ℕ) (s : State) → left ≡ 0 → goes_on e left room s ≡ false
+none_left e left room s h = rw h refl
+
+pub none_room : (e : Ends) (left room : ℕ) (s : State) → room ≡ 0 → goes_on e left room s ≡ false
+none_room e left room s h = rw h (none_of (nat_lt 0 left))
+
+pub none_after_halt : (e : Ends) (left room : ℕ) (s : State) → is_halted s ≡ true → goes_on e left room s ≡ false
+none_after_halt e left room s h = rw h (none_halted (nat_lt 0 left) (room == 0) (is_end e s))

@@ -3,7 +3,7 @@ use Rattle.std.proofs.Common.{◌≡◌, ℕ, Bool, true, false, ◌&&◌, List,
 use Rattle.std.specs.Prelude.{Option, Some, None, is_some}
 use Rattle.debug_commands.specs.declared.command.Events.{Events}
 use Rattle.debug_commands.specs.declared.command.Events.TheVariants.{Steps, Ticks, Byte, Until, Go, Changed}
-use Rattle.debug_commands.specs.declared.command.Stop.{Stop}
+use Rattle.debugger.specs.Stops.{Mark}
 use Rattle.steps.specs.Event.{outcome}
 use Rattle.steps.specs.Outcome.{is_trap, step_outcome, step_outcome_unless}
 use Rattle.steps.specs.State.{State}
@@ -24,10 +24,10 @@ halted-not-met s halted b is same on c =
     let off : is_trap (outcome Step s) ≡ false = none s.devices.halted s (sym (ap is_some is) ∙ sym same ∙ on) in
     rw off refl
 
-pub others-say-nothing : (events : Events) (stops : List Stop) (s : State) → ((n : ℕ) → events ≡ Go n → ⊥) → [] ≡ said_after events stops s
-others-say-nothing (Steps n) stops s other = refl
-others-say-nothing (Ticks n) stops s other = refl
-others-say-nothing (Byte b) stops s other = refl
-others-say-nothing (Until stop n) stops s other = refl
-others-say-nothing (Changed place n) stops s other = refl
-others-say-nothing (Go n) stops s other = absurd (other n refl)
+pub others-say-nothing : (events : Events) (marks : List Mark) (s : State) → ((n : ℕ) → events ≡ Go n → ⊥) → [] ≡ said_after events marks s
+others-say-nothing (Steps n) marks s other = refl
+others-say-nothing (Ticks n) marks s other = refl
+others-say-nothing (Byte b) marks s other = refl
+others-say-nothing (Until stop n) marks s other = refl
+others-say-nothing (Changed place n) marks s other = refl
+others-say-nothing (Go n) marks s other = absurd (other n refl)

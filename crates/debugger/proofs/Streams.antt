@@ -11,7 +11,8 @@ use Rattle.schedules.specs.Schedule.{is_halted}
 use Rattle.schedules.proofs.Events.{run_after-append}
 use Rattle.past.specs.Position.{Position, after_byte_or_step, at, byte_or_step, events_from, next_event, next_position, position_after}
 use Rattle.past.specs.Replay.{ReplayState, byte_due, byte_events, is_tick_due, replayed, step_done}
-use Rattle.debugger.specs.Stepping.{Ends, counted_steps, is_at_end, is_end, next_step, nowhere, ready, step_events, steps_while}
+use Rattle.debugger.specs.Stepping.{counted_steps, is_at_end, next_step, ready, step_events, steps_while}
+use Rattle.debugger.specs.Stops.{Ends, is_end, nowhere}
 use Rattle.debugger.proofs.Replays.{byte-is-passed, replayed-append, tick-is-passed}
 
 -- ---- events that come from a position, and where they lead

@@ -1,7 +1,8 @@
 -- What to read
 pub mod SessionState
+pub mod Stops
 pub mod Stepping
-pub mod Behind
+pub mod LastStop
 pub mod Reaching
 pub mod Reply
 pub mod Conversation
@@ -9,6 +10,7 @@ pub mod Answers
 pub mod Talk
 pub mod OnSchedule
 -- Inner words
+pub mod Marked
 pub mod Lines
 pub mod Standing
 pub mod Heard

@@ -7,7 +7,8 @@ use Rattle.registers.specs.Registers.{register}
 use Rattle.asm_names.specs.Registers.{register_name}
 use Rattle.disassembler.specs.Shown.{name_or}
 use Rattle.explain.specs.ValueText.{value_line}
-use Rattle.debugger.specs.Stepping.{Ends, is_at_end, is_end, most_sent}
+use Rattle.debugger.specs.Stepping.{is_at_end, most_sent}
+use Rattle.debugger.specs.Stops.{Ends, is_end}
 use Rattle.debugger.specs.Reply.{shown_sent}
 
 abbrev pub register_line : State → ℕ → List ℕ

@@ -1,7 +1,7 @@
 -- The replies of a session, and the state after a command, as functions of the state and the command.
 use Rattle.std.specs.Prelude.{ℕ, zero, suc, ◌+◌, ◌-◌, ◌*◌, Bool, true, false, not, ◌&&◌, ◌==◌, nat_lt, if◌then◌else◌, List, [], ◌∷◌, ◌++◌}
 use Rattle.std.specs.Prelude.{length, take}
-use Rattle.std.specs.Prelude.{drop, replicate, Option, Some, None, is_none, option_map, Result, Ok, Err, codes, decimal}
+use Rattle.std.specs.Prelude.{drop, replicate, Option, Some, None, is_none, option_map, Result, Ok, Err, bytes_eq, codes, decimal}
 use Rattle.std.specs.List.{flat_map, list_any}
 use Rattle.std.specs.Option.{unwrap_or}
 use Rattle.base.specs.Ram.{ram_base}
@@ -29,7 +29,9 @@ use Rattle.explain.specs.WordLine.{labelled_word}
 use Rattle.symbols.specs.Labels.{labelled}
 use Rattle.symbols.specs.Sources.{source_of}
 use Rattle.debug_commands.specs.declared.command.Stop.{Stop}
-use Rattle.debug_commands.specs.declared.command.Stop.TheVariants.{Address, Trap}
+use Rattle.debug_commands.specs.declared.command.Stop.TheVariants as stop
+use Rattle.debug_commands.specs.declared.command.Watched.{Watched}
+use Rattle.debug_commands.specs.declared.command.Watched.TheVariants.{Held, Bytes}
 use Rattle.debug_commands.specs.declared.command.Back.{Back as Distance}
 use Rattle.debug_commands.specs.declared.command.Back.TheVariants.{By, ToStop}
 use Rattle.debug_commands.specs.declared.command.Command.{Command}
@@ -37,7 +39,7 @@ use Rattle.debug_commands.specs.declared.command.Command.TheVariants.{Gives, Sho
 use Rattle.debug_commands.specs.declared.command.Events.{Events}
 use Rattle.debug_commands.specs.declared.command.Events.TheVariants.{Steps, Ticks, Byte, Until, Go, Changed}
 use Rattle.origins.specs.declared.place.Place.{Place}
-use Rattle.origins.specs.declared.place.Place.TheVariants.{Granule}
+use Rattle.origins.specs.declared.place.Place.TheVariants.{Register, Special, Granule}
 use Rattle.debug_commands.specs.declared.command.Recall.{Recall}
 use Rattle.debug_commands.specs.declared.command.Recall.TheVariants.{Ago, Origin, Lost}
 use Rattle.debug_commands.specs.declared.command.SetStops.{SetStops}
@@ -46,7 +48,7 @@ use Rattle.debug_commands.specs.declared.command.View.{View}
 use Rattle.debug_commands.specs.declared.command.View.TheVariants as view
 use Rattle.debug_commands.specs.Command.{about_line, help_text, command_of}
 use Rattle.symbols.specs.Symbols.{Symbol}
-use Rattle.debugger.specs.Behind.{since_stop}
+use Rattle.debugger.specs.LastStop.{since_stop}
 use Rattle.debugger.specs.SessionState.{SessionState, TimelineState, session_with}
 use Rattle.origins.specs.Places.{held}
 use Rattle.origin_texts.specs.Origin.{lost_text, origin_text}
@@ -56,7 +58,8 @@ use Rattle.past.specs.Replay.{ReplayState, replayed}
 use Rattle.past.specs.declared.given.Given.{Given}
 use Rattle.past.specs.declared.given.Given.TheVariants as gave
 use Rattle.schedules.specs.Schedule.{is_halted}
-use Rattle.debugger.specs.Stepping.{at_stops, counted_steps, is_any_stop, most_sent, nowhere, of_go, steps_holding, steps_while}
+use Rattle.debugger.specs.Stepping.{counted_steps, most_sent, steps_holding, steps_while}
+use Rattle.debugger.specs.Stops.{Mark, at_stops, is_any_stop, marks_of, nowhere, of_go}
 use Rattle.sim_run.specs.Stopping.{is_stop as is_trap_met}
 use Rattle.sim_run.specs.declared.stopping.StopAt.TheVariants.{Unfetched}
 use Rattle.debugger.specs.Reaching.{graph_reply, may_reply, members_reply, objects_reply, reach_reply}
@@ -69,29 +72,42 @@ are_scheduled (Ticks n) = false
 are_scheduled (Byte b) = false
 are_scheduled other = true
 
--- steps, with the schedule and the stops of a session
-unfoldable pub own_steps : Events → Option ReplayState → List Stop → State → List Event
-own_steps (Steps n) replay stops s = counted_steps replay n s
-own_steps (Until stop n) replay stops s = steps_while (at_stops (stop ∷ [])) (at_stops (stop ∷ [])) replay n (most_sent n) s
-own_steps (Go n) replay stops s = steps_while nowhere (of_go stops) replay n (most_sent n) s
-own_steps other replay stops s = []
+-- the stops of a command's steps: its own, or those of the session
+abbrev pub stops_of : Events → List Stop → List Stop
+stops_of (Until stop n) stops = stop ∷ []
+stops_of (Go n) stops = stops
+stops_of other stops = []
+
+-- steps, with the schedule of a session, up to these stops
+unfoldable pub own_steps : Events → Option ReplayState → List Mark → State → List Event
+own_steps (Steps n) replay marks s = counted_steps replay n s
+own_steps (Until stop n) replay marks s = steps_while (at_stops marks) (at_stops marks) replay n (most_sent n) s
+own_steps (Go n) replay marks s = steps_while nowhere (of_go marks) replay n (most_sent n) s
+own_steps other replay marks s = []
 
 -- before them the tick that is to come yet
 abbrev pub owed_events : Bool → List Event
 owed_events owed = if owed then event.Tick ∷ [] else []
 
-abbrev pub with_tick : Events → Option ReplayState → Bool → List Stop → State → List Event
-with_tick events replay owed stops s = owed_events owed ++ own_steps events replay stops (run_after (owed_events owed) s)
+abbrev pub with_tick : Events → Option ReplayState → Bool → List Mark → State → List Event
+with_tick events replay owed marks s = owed_events owed ++ own_steps events replay marks (run_after (owed_events owed) s)
 
 -- the events of a command
-unfoldable pub given : Events → Option ReplayState → Bool → List Stop → State → List Event
-given (Ticks n) replay owed stops s = replicate n event.Tick
-given (Byte b) replay owed stops s = event.Byte b ∷ []
-given (Changed place n) replay owed stops s = steps_holding place (held place s) n (at replay owed) s
-given events replay owed stops s = with_tick events replay owed stops s
+unfoldable pub given : Events → Option ReplayState → Bool → List Mark → State → List Event
+given (Ticks n) replay owed marks s = replicate n event.Tick
+given (Byte b) replay owed marks s = event.Byte b ∷ []
+given (Changed place n) replay owed marks s = steps_holding place (held place s) n (at replay owed) s
+given events replay owed marks s = with_tick events replay owed marks s
+
+-- what a command's stops watch is as it stands when the command begins
+abbrev pub marks_for : Events → List Stop → State → List Mark
+marks_for events stops s = marks_of s (stops_of events stops)
+
+abbrev pub given_at : Events → List Mark → TimelineState → List Event
+given_at events marks t = given events t.replay t.owed marks t.machine
 
 abbrev pub given_on : Events → List Stop → TimelineState → List Event
-given_on events stops t = given events t.replay t.owed stops t.machine
+given_on events stops t = given_at events (marks_for events stops t.machine) t
 
 -- where the schedule stands after a command's events
 unfoldable pub replay_after : Events → List Event → Option ReplayState → Option ReplayState
@@ -147,14 +163,15 @@ events_line symbols events s =
     codes "events " ++ decimal (length events) ++ codes " out " ++ shown_sent (run_sent events s) ++ standing symbols (run_after events s)
 
 -- what `go` says too: that the next step is a trap whose entry can't be fetched, where no stop of the session holds there
-abbrev pub said_after : Events → List Stop → State → List ℕ
-said_after (Go n) stops s =
-    if is_trap_met Unfetched false s && not (is_any_stop stops s) then codes "before a trap whose entry can't be fetched\n" else []
-said_after other stops s = []
+abbrev pub said_after : Events → List Mark → State → List ℕ
+said_after (Go n) marks s =
+    if is_trap_met Unfetched false s && not (is_any_stop marks s) then codes "before a trap whose entry can't be fetched\n" else []
+said_after other marks s = []
 
 abbrev pub events_text : Events → SessionState → List ℕ
 events_text events s =
-    events_line s.symbols (given_in events s) s.machine ++ said_after events s.stops (run_after (given_in events s) s.machine)
+    events_line s.symbols (given_in events s) s.machine
+    ++ said_after events (marks_for events s.stops s.machine) (run_after (given_in events s) s.machine)
 
 -- ---- commands that go back, and that show what came before
 
@@ -180,7 +197,7 @@ taken_back n t = taken_back_in n t.past t
 -- how many events are taken back: so many, or those since the last place at which a stop holds, if there is one
 abbrev pub distance_in : Distance → List Stop → TimelineState → Option ℕ
 distance_in (By n) stops t = Some n
-distance_in ToStop stops t = since_stop stops t.replay t.past
+distance_in ToStop stops t = since_stop (marks_of t.machine stops) t.replay t.past
 
 abbrev pub events_back : Distance → List Stop → TimelineState → ℕ
 events_back distance stops t = unwrap_or (distance_in distance stops t) 0
@@ -207,6 +224,7 @@ most_searched = 100000000
 -- a past has fewer events than are to be taken back, or more than a search goes through
 abbrev pub is_beyond_past : Command → PastState → Bool
 is_beyond_past (Back (By n)) past = nat_lt (count_of past.given) n
+is_beyond_past (Back ToStop) past = nat_lt most_searched (count_of past.given)
 is_beyond_past (Recalls (Origin place)) past = nat_lt most_searched (count_of past.given)
 is_beyond_past (Recalls (Lost place)) past = nat_lt most_searched (count_of past.given)
 is_beyond_past other past = false
@@ -281,17 +299,34 @@ abbrev pub is_place_outside : Place → State → Bool
 is_place_outside (Granule address) s = not (is_in_ram s.memory address 16)
 is_place_outside other s = false
 
+abbrev pub is_watched_outside : Watched → State → Bool
+is_watched_outside (Held place) s = is_place_outside place s
+is_watched_outside (Bytes address n) s = not (is_in_ram s.memory address n)
+
+abbrev pub is_stop_outside : SetStops → State → Bool
+is_stop_outside (Add (stop.Changed what)) s = is_watched_outside what s
+is_stop_outside other s = false
+
 abbrev pub is_outside : Command → State → Bool
 is_outside (Shows what) s = is_view_outside what s
 is_outside (Gives (Changed place n)) s = is_place_outside place s
 is_outside (Recalls (Origin place)) s = is_place_outside place s
 is_outside (Recalls (Lost place)) s = is_place_outside place s
+is_outside (Sets set) s = is_stop_outside set s
 is_outside other s = false
+
+-- what is watched, as it stands after `stop changed`
+abbrev pub watched_text : Watched → List ℕ
+watched_text (Held (Register n)) = name_or [] (register_name true n)
+watched_text (Held (Special n)) = name_or [] (scr_name n)
+watched_text (Held (Granule address)) = hex_of 16 address
+watched_text (Bytes address n) = hex_of 16 address ++ codes " " ++ decimal n
 
 -- a stop, as it stands after `stop`
 abbrev pub stop_line : Stop → List ℕ
-stop_line (Address address) = codes "at " ++ hex_of 16 address ++ codes "\n"
-stop_line Trap = codes "trap\n"
+stop_line (stop.Address address) = codes "at " ++ hex_of 16 address ++ codes "\n"
+stop_line stop.Trap = codes "trap\n"
+stop_line (stop.Changed what) = codes "changed " ++ watched_text what ++ codes "\n"
 
 abbrev pub stops_text : List Stop → List ℕ
 stops_text stops = flat_map stop_line stops
@@ -328,12 +363,9 @@ view_text symbols stops (view.HelpOn line) s = about_line line
 view_text symbols stops (view.Code fault) s = code_text fault
 view_text symbols stops view.Nothing s = []
 
--- whether two stops are the same
+-- whether two stops are the same: their lines are
 abbrev pub is_same_stop : Stop → Stop → Bool
-is_same_stop (Address a) (Address b) = a == b
-is_same_stop (Address a) Trap = false
-is_same_stop Trap (Address b) = false
-is_same_stop Trap Trap = true
+is_same_stop stop other = bytes_eq (stop_line stop) (stop_line other)
 
 -- one stop more after the others, unless it is one of them; or none
 abbrev pub stops_after : SetStops → List Stop → List Stop

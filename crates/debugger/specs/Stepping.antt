@@ -1,55 +1,19 @@
--- The steps of a command, with the byte before each and the tick after it where a session has a schedule; and where they stop.
+-- The steps of a command, with the byte before each and the tick after it where a session has a schedule.
 use Rattle.std.specs.Prelude.{ℕ, zero, suc, ◌-◌, ◌==◌, nat_lt, min, Bool, true, false, not, ◌&&◌, ◌||◌, if◌then◌else◌, List, [], ◌∷◌, ◌++◌}
 use Rattle.std.specs.Prelude.{length, replicate, Option, Some, None, option_to_list}
-use Rattle.std.specs.List.{list_any}
 use Rattle.steps.specs.declared.event.Event.{Event}
 use Rattle.steps.specs.declared.event.Event.TheVariants.{Step, Tick}
-use Rattle.steps.specs.State.{State, pc_of}
+use Rattle.steps.specs.State.{State}
 use Rattle.steps.specs.Event.{after, sent}
-use Rattle.steps.specs.Outcome.{is_trap, step_outcome}
 use Rattle.machine.specs.Run.{run_after}
 use Rattle.schedules.specs.Schedule.{is_halted}
-use Rattle.debug_commands.specs.declared.command.Stop.{Stop}
-use Rattle.debug_commands.specs.declared.command.Stop.TheVariants.{Address, Trap}
-use Rattle.sim_run.specs.Stopping.{is_stop as is_trap_met}
-use Rattle.sim_run.specs.declared.stopping.StopAt.TheVariants.{Unfetched}
 use Rattle.origins.specs.declared.place.Place.{Place}
 use Rattle.cap_bounds.specs.CapValue.{CapValue}
 use Rattle.cap_rights.specs.Derivations.{equal_exact}
 use Rattle.origins.specs.Places.{held}
 use Rattle.past.specs.Position.{Position, next_event, next_position}
 use Rattle.past.specs.Replay.{ReplayState, byte_events, is_over, is_tick_due, step_done}
-
--- ---- stops
-
--- whether a state is one before whose step a command stops
-abbrev pub is_stop : Stop → State → Bool
-is_stop (Address address) s = pc_of s == address
-is_stop Trap s = is_trap (step_outcome s)
-
-abbrev pub is_any_stop : List Stop → State → Bool
-is_any_stop stops s = list_any (λ stop. is_stop stop s) stops
-
--- where steps end: before a step at which one of some stops holds, and, where it says so, before a trap whose entry can't be fetched
-pub record Ends : Type 0 where
-  pub stops : List Stop
-  pub unfetched : Bool
-
-abbrev pub ends : List Stop → Bool → Ends
-ends stops unfetched = record { stops = stops; unfetched = unfetched }
-
-abbrev pub at_stops : List Stop → Ends
-at_stops stops = ends stops false
-
-abbrev pub nowhere : Ends
-nowhere = at_stops []
-
--- those of `go`
-abbrev pub of_go : List Stop → Ends
-of_go stops = ends stops true
-
-abbrev pub is_end : Ends → State → Bool
-is_end e s = is_any_stop e.stops s || (e.unfetched && is_trap_met Unfetched false s)
+use Rattle.debugger.specs.Stops.{Ends, is_end, nowhere}
 
 -- ---- the schedule
 

@@ -5,7 +5,8 @@ ghost use Rattle.special_regs.specs.Scrs.{scr_value};
 ghost use Rattle.steps.specs.State.{pc_of};
 ghost use Rattle.tagged_memory.specs.Memory.{is_in_ram};
 ghost use Rattle.debug_commands.specs.Limits.{IsWithinLimits, IsShownWithinLimits};
-ghost use Rattle.debugger.specs.Reply.{answer_to, code_text, is_beyond, is_outside, is_place_outside, is_view_outside, session_after};
+ghost use Rattle.debugger.specs.Reply.{answer_to, code_text, is_beyond, is_outside, is_place_outside, is_stop_outside};
+ghost use Rattle.debugger.specs.Reply.{is_view_outside, session_after};
 ghost use Rattle.debugger.specs.Reply.{told, view_text, with_stop, word_lines};
 ghost use Rattle.debugger.specs.Answers.{seen_reply};
 ghost use Rattle.debugger.specs.SessionState.{session_with};
@@ -21,10 +22,13 @@ use crate::stepping::pc;
 use crate::stops::{append_stops, set_stops};
 use crate::timeline::Timeline;
 use cap_bounds::CapRep;
-use debug_commands::{Command, DebugFault, Events, Recall, Stop, View, about_line, help_text};
+use debug_commands::{
+    Command, DebugFault, Events, Recall, SetStops, Stop, View, Watched, about_line, help_text,
+};
 use explain::{put_why, put_why_objects};
 use machine::Machine;
 use origins::Place;
+use schedules::{Count, Progress};
 use std::alloc::{AllocError, Global};
 use symbols::Symbols;
 use texts::Piece::Text;
@@ -52,6 +56,19 @@ fn is_place_outside<C: CapRep>(machine: &Machine<C>, place: Place) -> bool
     }
 }
 
+/// Whether a stop that is set watches some byte outside RAM.
+fn is_stop_outside<C: CapRep>(machine: &Machine<C>, set: SetStops) -> bool
+    ensures { result ≡ is_stop_outside set machine.now }
+{
+    match set {
+        SetStops::Add(Stop::Changed(Watched::Held(place))) => is_place_outside(machine, place),
+        SetStops::Add(Stop::Changed(Watched::Bytes { address, count })) => {
+            !machine.memory().is_in_ram(address, count)
+        }
+        _ => false,
+    }
+}
+
 /// Whether some byte that a command shows or asks for is outside RAM.
 pub(crate) fn is_outside<C: CapRep>(machine: &Machine<C>, command: Command) -> bool
     requires { IsWithinLimits command }
@@ -71,6 +88,7 @@ pub(crate) fn is_outside<C: CapRep>(machine: &Machine<C>, command: Command) -> b
         | Command::Recalls(Recall::Origin(place) | Recall::Lost(place)) => {
             is_place_outside(machine, place)
         }
+        Command::Sets(set) => is_stop_outside(machine, set),
         _ => false,
     }
 }
@@ -180,12 +198,13 @@ fn shown<C: CapRep>(
 
 /// Does what a command asks for, and answers its reply: B2 where it goes back to a stop and none holds at a place before, B4 where there is
 /// no memory. Then nothing is done.
-pub(crate) fn answer(
+pub(crate) fn answer<P: Progress>(
     alloc: Global,
     timeline: &mut Timeline<WordCap>,
     symbols: &Symbols,
     stops: &mut Vec<Stop>,
     command: Command,
+    counted: &mut Count<'_, P>,
 ) -> Result<Reply, DebugFault>
     requires limits { IsWithinLimits command }
     requires past { is_beyond command timeline.old.past ≡ false }
@@ -201,7 +220,7 @@ pub(crate) fn answer(
 {
     match command {
         Command::Gives(events) => Ok(Reply::Text(told_events(
-            alloc, timeline, symbols, stops, events,
+            alloc, timeline, symbols, stops, events, counted,
         )?)),
         Command::Shows(view) => Ok(Reply::Text(shown(
             alloc,
@@ -210,9 +229,11 @@ pub(crate) fn answer(
             stops,
             view,
         )?)),
-        Command::Recalls(recall) => Ok(Reply::Text(recalled(alloc, timeline, symbols, recall)?)),
+        Command::Recalls(recall) => Ok(Reply::Text(recalled(
+            alloc, timeline, symbols, recall, counted,
+        )?)),
         Command::Back(distance) => Ok(Reply::Text(told_back(
-            alloc, timeline, symbols, stops, distance,
+            alloc, timeline, symbols, stops, distance, counted,
         )?)),
         Command::Sets(set) => Ok(Reply::Text(set_stops(alloc, stops, set)?)),
         Command::Quit => Ok(Reply::Quit),

@@ -2,10 +2,11 @@
 #![tactic(auto)]
 
 mod answer;
-mod behind;
 mod caps;
 mod changed;
 mod fault;
+mod last_stop;
+mod marks;
 mod ram;
 mod reaching;
 mod recalling;
@@ -24,4 +25,4 @@ pub use disassembler::disassemble;
 pub use fault::TalkFault;
 pub use reply::Reply;
 pub use session::Session;
-pub use talking::talk;
+pub use talking::{talk, talk_told};

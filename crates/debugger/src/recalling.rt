@@ -9,7 +9,8 @@ ghost use Rattle.debugger.specs.Reply.{distance_in, events_back, lacks_stop, rec
 ghost use Rattle.debugger.specs.SessionState.{HasItsPast};
 ghost use Rattle.past.specs.Given.{count_of};
 
-use crate::behind::since_stop;
+use crate::last_stop::since_stop;
+use crate::marks::marks_of;
 use crate::run::place_text;
 use crate::timeline::Timeline;
 use cap_bounds::CapRep;
@@ -17,6 +18,7 @@ use debug_commands::{Back as Distance, Command, DebugFault, Recall, Stop};
 use machine::Machine;
 use origin_texts::{put_lost, put_origin};
 use past::{Past, Replay};
+use schedules::{Count, Progress};
 use std::alloc::{AllocError, Global};
 use symbols::Symbols;
 use texts::Piece::{Decimal, Text};
@@ -32,7 +34,9 @@ fn is_beyond_past(past: &Past, command: Command) -> bool
 {
     match command {
         Command::Back(Distance::By(events)) => past.count() < events,
-        Command::Recalls(Recall::Origin(_) | Recall::Lost(_)) => past.count() > MOST_SEARCHED,
+        Command::Back(Distance::ToStop) | Command::Recalls(Recall::Origin(_) | Recall::Lost(_)) => {
+            past.count() > MOST_SEARCHED
+        }
         _ => false,
     }
 }
@@ -49,13 +53,14 @@ pub(crate) fn is_beyond<C: CapRep>(timeline: &Timeline<C>, command: Command) -> 
 
 /// Appends what is shown of a past.
 #[tactic(auto, unfolding(crate::specs::Reply::recalled))]
-fn append_recalled(
+fn append_recalled<P: Progress>(
     text: &mut String,
     alloc: Global,
     symbols: &Symbols,
     past: &Past,
     replay: Option<&Replay>,
     recall: Recall,
+    counted: &mut Count<'_, P>,
 ) -> Result<(), AllocError>
     requires { IsRecalledThere recall past.now }
     ensures { OnOk result (string_bytes text.new
@@ -63,17 +68,18 @@ fn append_recalled(
 {
     match recall {
         Recall::Ago => append(text, &[Text("events "), Decimal(past.count()), Text("\n")]),
-        Recall::Origin(place) => put_origin(text, alloc, symbols, past, replay, place),
-        Recall::Lost(place) => put_lost(text, alloc, symbols, past, replay, place),
+        Recall::Origin(place) => put_origin(text, alloc, symbols, past, replay, place, counted),
+        Recall::Lost(place) => put_lost(text, alloc, symbols, past, replay, place, counted),
     }
 }
 
 /// The text of what is shown of a session's past, or B4.
-pub(crate) fn recalled(
+pub(crate) fn recalled<P: Progress>(
     alloc: Global,
     timeline: &Timeline<WordCap>,
     symbols: &Symbols,
     recall: Recall,
+    counted: &mut Count<'_, P>,
 ) -> Result<String, DebugFault>
     requires limits { IsRecalledWithinLimits recall }
     requires inside { is_outside (Recalls recall) timeline.now.machine ≡ false }
@@ -89,6 +95,7 @@ pub(crate) fn recalled(
             past,
             timeline.replay.as_ref(),
             recall,
+            counted,
         )?;
     }
     Ok(text)
@@ -169,11 +176,12 @@ fn told_back_by(
 }
 
 /// How many events a command takes back: B2 where it goes to a stop and none holds at a place before, B4 where there is no memory.
-fn distance_in<C: CapRep>(
+fn distance_in<P: Progress>(
     alloc: Global,
-    timeline: &Timeline<C>,
+    timeline: &Timeline<WordCap>,
     stops: &[Stop],
     distance: Distance,
+    counted: &mut Count<'_, P>,
 ) -> Result<u64, DebugFault>
     requires { is_beyond (Back distance) timeline.now.past ≡ false }
     ensures ok { IfOk result (λ n. distance_in distance stops.now timeline.now ≡ Some n) }
@@ -183,18 +191,28 @@ fn distance_in<C: CapRep>(
 {
     match distance {
         Distance::By(events) => Ok(events),
-        Distance::ToStop => since_stop(alloc, &timeline.past, timeline.replay.as_ref(), stops),
+        Distance::ToStop => {
+            let marks = marks_of(alloc, &timeline.machine, stops)?;
+            since_stop(
+                alloc,
+                &timeline.past,
+                timeline.replay.as_ref(),
+                &marks,
+                counted,
+            )
+        }
     }
 }
 
 /// Takes back the last events, and answers the line that tells of it: B2 where they go back to a stop and none holds at a place before, B4
 /// where there is no memory. Then nothing is taken back.
-pub(crate) fn told_back(
+pub(crate) fn told_back<P: Progress>(
     alloc: Global,
     timeline: &mut Timeline<WordCap>,
     symbols: &Symbols,
     stops: &[Stop],
     distance: Distance,
+    counted: &mut Count<'_, P>,
 ) -> Result<String, DebugFault>
     requires { is_beyond (Back distance) timeline.old.past ≡ false }
     ensures text { IfOk result (λ text. string_bytes text ≡ back_line symbols.now (events_back distance stops.now timeline.old)
@@ -205,6 +223,6 @@ pub(crate) fn told_back(
         ⊎ ((fault ≡ DebugFault.B2) × (lacks_stop (Back distance) stops.now timeline.old ≡ true))) }
     ensures same { OnErr result (timeline.new ≡ timeline.old) }
 {
-    let events = distance_in(alloc, timeline, stops, distance)?;
+    let events = distance_in(alloc, timeline, stops, distance, counted)?;
     told_back_by(alloc, timeline, symbols, events)
 }

@@ -7,7 +7,9 @@ ghost use Rattle.steps.specs.declared.event.Event.TheVariants.{Step};
 ghost use Rattle.machine.specs.Run.{run_after, run_sent};
 ghost use Rattle.arrayvec.specs.ArrayString.{array_string_len};
 ghost use Rattle.texts.specs.Hex.{hex_of};
-ghost use Rattle.debugger.specs.Reply.{after_events, events_line, given, given_of, given_on, own_steps, owed_after, replay_after};
+ghost use Rattle.debugger.specs.Marked.{seen};
+ghost use Rattle.debugger.specs.Reply.{after_events, events_line, given, given_at, given_of, given_on, marks_for, own_steps};
+ghost use Rattle.debugger.specs.Reply.{owed_after, replay_after};
 ghost use Rattle.debugger.specs.Reply.{with_tick};
 ghost use Rattle.debugger.specs.Reply.{said_after, shown_end, shown_sent, standing};
 ghost use Rattle.debugger.specs.Stepping.{counted_steps, most_sent};
@@ -18,6 +20,7 @@ ghost use Rattle.past.specs.Given.{count_of, count_of_one};
 ghost use Rattle.debug_commands.specs.Limits.{AreWithinLimits};
 
 use crate::changed::steps_holding;
+use crate::marks::{Mark, marks_of};
 use crate::stepping::{pass, pc, said_after, steps_replayed, steps_while};
 use crate::timeline::Timeline;
 use arrayvec::ArrayString;
@@ -25,6 +28,7 @@ use cap_bounds::CapRep;
 use debug_commands::{DebugFault, Events, Stop};
 use machine::{Event, Machine, emit};
 use past::{Given, Past, Replay};
+use schedules::{Count, Progress};
 use std::alloc::{AllocError, Global};
 use symbols::{Symbols, labelled};
 use texts::Piece::{Decimal, Hexadecimal, Text};
@@ -87,11 +91,12 @@ fn most_bytes(events: Events) -> u64
 }
 
 /// Gives so many steps, with the schedule of a session, if there is one, or without, and answers how many events there were.
-fn give_steps<C: CapRep>(
+fn give_steps<C: CapRep, P: Progress>(
     machine: &mut Machine<C>,
     replay: &mut Option<Replay>,
     times: u64,
     sent: &mut Vec<u8>,
+    counted: &mut Count<'_, P>,
 ) -> u64
     requires room { vec_len sent.old + times ≤ vec_capacity sent.old }
     requires few { times ≤ 1000000 }
@@ -101,8 +106,11 @@ fn give_steps<C: CapRep>(
     ensures count { result ≡ length (counted_steps replay.old times machine.old) }
     ensures len { vec_len sent.new ≤ vec_len sent.old + times }
 {
+    let none: [Mark<C>; 0] = [];
     match replay {
-        Some(replay) => steps_replayed(machine, replay, &[], &[], false, times, times, sent),
+        Some(replay) => steps_replayed(
+            machine, replay, &none, &none, false, times, times, sent, counted,
+        ),
         None => {
             steps(machine, times, sent);
             times
@@ -110,35 +118,57 @@ fn give_steps<C: CapRep>(
     }
 }
 
+/// What a command's stops watch as it stands when the command begins.
+fn marks_for<C: CapRep>(
+    alloc: Global,
+    machine: &Machine<C>,
+    stops: &[Stop],
+    events: Events,
+) -> Result<Vec<Mark<C>>, AllocError>
+    ensures { IfOk result (λ marks. seen C.value marks.items ≡ marks_for events stops.now machine.now) }
+{
+    match events {
+        Events::Until { stop, .. } => marks_of(alloc, machine, &[stop]),
+        Events::Go { .. } => marks_of(alloc, machine, stops),
+        _ => Ok(Vec::new(alloc)),
+    }
+}
+
 /// Gives steps of a command with the schedule of a session, if there is one, or without, appends what is sent to the other bytes, and
 /// answers how many events there were.
 #[tactic(auto, unfolding(crate::specs::Reply::own_steps))]
-fn give_own<C: CapRep>(
+fn give_own<C: CapRep, P: Progress>(
     machine: &mut Machine<C>,
     replay: &mut Option<Replay>,
-    stops: &[Stop],
+    marks: &[Mark<C>],
     events: Events,
     sent: &mut Vec<u8>,
+    counted: &mut Count<'_, P>,
 ) -> u64
     requires room { vec_len sent.old + most_of events ≤ vec_capacity sent.old }
     requires limits { AreWithinLimits events }
-    ensures state { machine.new ≡ run_after (own_steps events replay.old stops.now machine.old) machine.old }
-    ensures bytes { sent.new.items ≡ sent.old.items ++ run_sent (own_steps events replay.old stops.now machine.old) machine.old }
-    ensures replay { replay.new ≡ option_map (replayed (own_steps events replay.old stops.now machine.old)) replay.old }
-    ensures count { result ≡ length (own_steps events replay.old stops.now machine.old) }
+    ensures state { machine.new ≡ run_after (own_steps events replay.old (seen C.value marks.now) machine.old) machine.old }
+    ensures bytes { sent.new.items
+        ≡ sent.old.items ++ run_sent (own_steps events replay.old (seen C.value marks.now) machine.old) machine.old }
+    ensures replay { replay.new ≡ option_map (replayed (own_steps events replay.old (seen C.value marks.now) machine.old)) replay.old }
+    ensures count { result ≡ length (own_steps events replay.old (seen C.value marks.now) machine.old) }
     ensures few { result ≤ 4000000000000 }
     ensures len { vec_len sent.new ≤ vec_len sent.old + most_of events }
 {
     match events {
-        Events::Steps(n) => give_steps(machine, replay, n, sent),
-        Events::Until { stop, most } => {
-            let stops = [stop];
+        Events::Steps(n) => give_steps(machine, replay, n, sent, counted),
+        Events::Until { most, .. } => {
             let room = most_sent(most);
-            steps_while(machine, replay, &stops, &stops, false, most, room, sent)
+            steps_while(
+                machine, replay, marks, marks, false, most, room, sent, counted,
+            )
         }
         Events::Go { most } => {
+            let none: [Mark<C>; 0] = [];
             let room = most_sent(most);
-            steps_while(machine, replay, &[], stops, true, most, room, sent)
+            steps_while(
+                machine, replay, &none, marks, true, most, room, sent, counted,
+            )
         }
         Events::Ticks(_) => 0,
         Events::Byte(_) => 0,
@@ -148,27 +178,30 @@ fn give_own<C: CapRep>(
 
 /// Gives the tick that is to come yet, if one is, and then steps of a command, appends what they send to the other bytes, and answers how
 /// many events there were. After them no tick is to come.
-fn give_paid<C: CapRep>(
+fn give_paid<C: CapRep, P: Progress>(
     machine: &mut Machine<C>,
     replay: &mut Option<Replay>,
     owed: &mut bool,
-    stops: &[Stop],
+    marks: &[Mark<C>],
     events: Events,
     sent: &mut Vec<u8>,
+    counted: &mut Count<'_, P>,
 ) -> u64
     requires room { vec_len sent.old + most_of events ≤ vec_capacity sent.old }
     requires limits { AreWithinLimits events }
-    ensures state { machine.new ≡ run_after (with_tick events replay.old owed.old stops.now machine.old) machine.old }
-    ensures bytes { sent.new.items ≡ sent.old.items ++ run_sent (with_tick events replay.old owed.old stops.now machine.old) machine.old }
-    ensures replay { replay.new ≡ option_map (replayed (with_tick events replay.old owed.old stops.now machine.old)) replay.old }
+    ensures state { machine.new ≡ run_after (with_tick events replay.old owed.old (seen C.value marks.now) machine.old) machine.old }
+    ensures bytes { sent.new.items
+        ≡ sent.old.items ++ run_sent (with_tick events replay.old owed.old (seen C.value marks.now) machine.old) machine.old }
+    ensures replay { replay.new
+        ≡ option_map (replayed (with_tick events replay.old owed.old (seen C.value marks.now) machine.old)) replay.old }
     ensures owed { owed.new ≡ false }
-    ensures count { result ≡ length (with_tick events replay.old owed.old stops.now machine.old) }
+    ensures count { result ≡ length (with_tick events replay.old owed.old (seen C.value marks.now) machine.old) }
     ensures few { result ≤ 4000000000001 }
     ensures len { vec_len sent.new ≤ vec_len sent.old + most_of events }
 {
     let ticks = pass(machine, *owed);
     *owed = false;
-    ticks + give_own(machine, replay, stops, events, sent)
+    ticks + give_own(machine, replay, marks, events, sent, counted)
 }
 
 /// What a past keeps of so many events of a command.
@@ -186,23 +219,25 @@ fn given_of(events: Events, count: u64) -> Given
 
 /// Gives the events of a command, appends what is sent to the other bytes, and answers how many there were: the timeline without its past.
 #[tactic(auto, unfolding(crate::specs::Reply::given, crate::specs::Reply::replay_after, crate::specs::Reply::owed_after))]
-fn give<C: CapRep>(
+fn give<C: CapRep, P: Progress>(
     machine: &mut Machine<C>,
     replay: &mut Option<Replay>,
     owed: &mut bool,
-    stops: &[Stop],
+    marks: &[Mark<C>],
     events: Events,
     sent: &mut Vec<u8>,
+    counted: &mut Count<'_, P>,
 ) -> u64
     requires room { vec_len sent.old + most_of events ≤ vec_capacity sent.old }
     requires limits { AreWithinLimits events }
     requires there { IsChangeThere events machine.old }
-    ensures state { machine.new ≡ run_after (given events replay.old owed.old stops.now machine.old) machine.old }
-    ensures bytes { sent.new.items ≡ sent.old.items ++ run_sent (given events replay.old owed.old stops.now machine.old) machine.old }
-    ensures replay { replay.new ≡ replay_after events (given events replay.old owed.old stops.now machine.old) replay.old }
+    ensures state { machine.new ≡ run_after (given events replay.old owed.old (seen C.value marks.now) machine.old) machine.old }
+    ensures bytes { sent.new.items
+        ≡ sent.old.items ++ run_sent (given events replay.old owed.old (seen C.value marks.now) machine.old) machine.old }
+    ensures replay { replay.new ≡ replay_after events (given events replay.old owed.old (seen C.value marks.now) machine.old) replay.old }
     ensures owed { owed.new
-        ≡ owed_after events (given events replay.old owed.old stops.now machine.old) replay.old owed.old machine.old }
-    ensures count { result ≡ length (given events replay.old owed.old stops.now machine.old) }
+        ≡ owed_after events (given events replay.old owed.old (seen C.value marks.now) machine.old) replay.old owed.old machine.old }
+    ensures count { result ≡ length (given events replay.old owed.old (seen C.value marks.now) machine.old) }
     ensures few { result ≤ 4000000000001 }
     ensures len { vec_len sent.new ≤ vec_len sent.old + most_of events }
 {
@@ -220,7 +255,7 @@ fn give<C: CapRep>(
             *owed = *owed && machine.halted().is_none();
             count
         }
-        _ => give_paid(machine, replay, owed, stops, events, sent),
+        _ => give_paid(machine, replay, owed, marks, events, sent, counted),
     }
 }
 
@@ -255,19 +290,20 @@ fn keep(past: &mut Option<Past>, given: Given)
 
 /// Gives the events of a command to a timeline, appends what is sent to the other bytes, for which there is room, and answers how many
 /// there were. Where there is no memory in its past nothing is given.
-fn give_all<C: CapRep>(
+fn give_all<C: CapRep, P: Progress>(
     timeline: &mut Timeline<C>,
-    stops: &[Stop],
+    marks: &[Mark<C>],
     events: Events,
     sent: &mut Vec<u8>,
+    counted: &mut Count<'_, P>,
 ) -> Result<u64, AllocError>
     requires room { vec_len sent.old + most_of events ≤ vec_capacity sent.old }
     requires limits { AreWithinLimits events }
     requires there { IsChangeThere events timeline.old.machine }
-    ensures state { OnOk result (timeline.new ≡ after_events events (given_on events stops.now timeline.old) timeline.old) }
+    ensures state { OnOk result (timeline.new ≡ after_events events (given_at events (seen C.value marks.now) timeline.old) timeline.old) }
     ensures bytes { OnOk result (sent.new.items
-        ≡ sent.old.items ++ run_sent (given_on events stops.now timeline.old) timeline.old.machine) }
-    ensures count { IfOk result (λ count. count ≡ length (given_on events stops.now timeline.old)) }
+        ≡ sent.old.items ++ run_sent (given_at events (seen C.value marks.now) timeline.old) timeline.old.machine) }
+    ensures count { IfOk result (λ count. count ≡ length (given_at events (seen C.value marks.now) timeline.old)) }
     ensures len { OnOk result (vec_len sent.new ≤ vec_len sent.old + most_of events) }
     ensures same { OnErr result (timeline.new ≡ timeline.old) }
 {
@@ -276,9 +312,10 @@ fn give_all<C: CapRep>(
         &mut timeline.machine,
         &mut timeline.replay,
         &mut timeline.owed,
-        stops,
+        marks,
         events,
         sent,
+        counted,
     );
     keep(&mut timeline.past, given_of(events, count));
     Ok(count)
@@ -369,33 +406,58 @@ fn append_events<C: CapRep>(
     append_said(text, said)
 }
 
-/// Gives the events of a command, and answers the line that tells of them and what is said after it.
-///
-/// The line's room, and that in the past, is made before the first event: B4 says that there is no memory for it, and then no event is
-/// given.
-pub(crate) fn told_events<C: CapRep>(
+/// Gives the events of a command, where it is known what the command's stops watch.
+fn told_at<C: CapRep, P: Progress>(
     alloc: Global,
     timeline: &mut Timeline<C>,
     symbols: &Symbols,
-    stops: &[Stop],
+    marks: &[Mark<C>],
     events: Events,
+    counted: &mut Count<'_, P>,
 ) -> Result<String, DebugFault>
     requires limits { AreWithinLimits events }
     requires there { IsChangeThere events timeline.old.machine }
     ensures text { IfOk result (λ text. string_bytes text
-        ≡ events_line symbols.now (given_on events stops.now timeline.old) timeline.old.machine
-        ++ said_after events stops.now (run_after (given_on events stops.now timeline.old) timeline.old.machine)) }
-    ensures state { OnOk result (timeline.new ≡ after_events events (given_on events stops.now timeline.old) timeline.old) }
+        ≡ events_line symbols.now (given_at events (seen C.value marks.now) timeline.old) timeline.old.machine
+        ++ said_after events (seen C.value marks.now)
+        (run_after (given_at events (seen C.value marks.now) timeline.old) timeline.old.machine)) }
+    ensures state { OnOk result (timeline.new ≡ after_events events (given_at events (seen C.value marks.now) timeline.old) timeline.old) }
     ensures err { IfErr result (λ fault. fault ≡ DebugFault.B4) }
     ensures same { OnErr result (timeline.new ≡ timeline.old) }
 {
     let most = most_bytes(events) as usize;
     let mut sent = Vec::with_capacity(alloc, most)?;
     let mut text = String::with_capacity(alloc, 2 * most + LINE_ROOM)?;
-    let count = give_all(timeline, stops, events, &mut sent)?;
-    let said = said_after(&timeline.machine, stops, events);
+    let count = give_all(timeline, marks, events, &mut sent, counted)?;
+    let said = said_after(&timeline.machine, marks, events);
     match append_events(&mut text, symbols, &timeline.machine, count, &sent, said) {
         Ok(()) => Ok(text),
         Err(_) => unreachable!(),
     }
+}
+
+/// Gives the events of a command, and answers the line that tells of them and what is said after it.
+///
+/// The line's room, and that in the past, is made before the first event: B4 says that there is no memory for it, and then no event is
+/// given.
+pub(crate) fn told_events<C: CapRep, P: Progress>(
+    alloc: Global,
+    timeline: &mut Timeline<C>,
+    symbols: &Symbols,
+    stops: &[Stop],
+    events: Events,
+    counted: &mut Count<'_, P>,
+) -> Result<String, DebugFault>
+    requires limits { AreWithinLimits events }
+    requires there { IsChangeThere events timeline.old.machine }
+    ensures text { IfOk result (λ text. string_bytes text
+        ≡ events_line symbols.now (given_on events stops.now timeline.old) timeline.old.machine
+        ++ said_after events (marks_for events stops.now timeline.old.machine)
+        (run_after (given_on events stops.now timeline.old) timeline.old.machine)) }
+    ensures state { OnOk result (timeline.new ≡ after_events events (given_on events stops.now timeline.old) timeline.old) }
+    ensures err { IfErr result (λ fault. fault ≡ DebugFault.B4) }
+    ensures same { OnErr result (timeline.new ≡ timeline.old) }
+{
+    let marks = marks_for(alloc, &timeline.machine, stops, events)?;
+    told_at(alloc, timeline, symbols, &marks, events, counted)
 }

@@ -16,7 +16,7 @@ use debug_commands::{Command, DebugFault, Stop, command_of};
 use image::Image;
 use machine::Machine;
 use past::{Past, Replay};
-use schedules::Schedule;
+use schedules::{Count, Nobody, Progress, Schedule};
 use std::alloc::Global;
 use std::marker::Model;
 use symbols::Symbols;
@@ -145,29 +145,33 @@ impl<C: CapRep> Session<C> {
 impl Session<WordCap> {
     /// Does what a line asks for, and answers its reply.
     ///
-    /// Commands are `step N`, `tick N`, `byte B`, `until ADDR [N]`, `trap [N]`, `go [N]`, `stop at ADDR`, `stop trap`, `stop off`, `stops`,
-    /// `changed R N`, `back N`, `back to stop`, `ago`, `origin R`, `lost R`, `reg R`, `regs`, `scr`, `csr`, `caps`,
-    /// `mem ADDR [LEN]`, `dis [ADDR [N]]`, `why`, `reach`, `may`, `help` and `quit`; numbers are those of the assembly language, and ADDR
-    /// is a number or, if it is not one, a label of the session, or such a label with a number added to it or taken away from it. A line
-    /// whose first word begins with `#` is answered with nothing. `step`, `tick`, `byte`, `until`, `trap`, `go`, `changed` and `back`
-    /// change the machine, the three of `stop` the stops, and none changes the labels.
+    /// Commands are `step N`, `tick N`, `byte B`, `until ADDR [N]`, `trap [N]`, `go [N]`, `stop at ADDR`, `stop changed R`,
+    /// `stop changed ADDR [LEN]`, `stop trap`, `stop off`, `stops`, `changed R N`, `back N`, `back to stop`, `ago`, `origin R`, `lost R`,
+    /// `reg R`, `regs`, `scr`, `csr`, `caps`, `mem ADDR [LEN]`, `dis [ADDR [N]]`, `why`, `reach`, `may`, `help` and `quit`; numbers are
+    /// those of the assembly language, and ADDR is a number or, if it is not one, a label of the session, or such a label with a number
+    /// added to it or taken away from it. A line whose first word begins with `#` is answered with nothing. `step`, `tick`, `byte`,
+    /// `until`, `trap`, `go`, `changed` and `back` change the machine, those of `stop` the stops, and none changes the labels.
     ///
     /// Refused with B1 where the line has no word or its first is no command; with B2 where its operands are others, and where the
     /// line has more than 255 bytes or one of 128 or more, whatever its words; where a session without a past is asked for one, where more
     /// is to be taken back than was given, where no stop holds at a place before, and where more than 100000000 events are to be searched;
-    /// with B3 where some byte to be shown is outside RAM; with B4 where there is no memory for the reply. A refused line changes nothing:
-    /// the reply's room is made before the first event.
+    /// with B3 where some byte to be shown or watched is outside RAM; with B4 where there is no memory for the reply. A refused line
+    /// changes nothing: the reply's room is made before the first event.
     pub fn command(&mut self, line: &str) -> Result<Reply, DebugFault>
         ensures ok { IfOk result (λ reply. IsAnswer line.now self.old (seen_reply reply)) }
         ensures state { OnOk result (self.new ≡ state_after line.now self.old) }
         ensures err { IfErr result (λ fault. (fault ≡ DebugFault.B4) ⊎ (command_in line.now self.old ≡ Err fault)) }
         ensures same { OnErr result (self.new ≡ self.old) }
     {
-        self.command_bytes(line.as_bytes())
+        self.command_bytes(line.as_bytes(), &mut Nobody)
     }
 
-    /// The same of a line whose bytes need not be text.
-    pub(crate) fn command_bytes(&mut self, line: &[u8]) -> Result<Reply, DebugFault>
+    /// The same of a line whose bytes need not be text. `progress` is told from time to time how many events were given or searched.
+    pub(crate) fn command_bytes<P: Progress>(
+        &mut self,
+        line: &[u8],
+        progress: &mut P,
+    ) -> Result<Reply, DebugFault>
         ensures ok { IfOk result (λ reply. IsAnswer line.now self.old (seen_reply reply)) }
         ensures state { OnOk result (self.new ≡ state_after line.now self.old) }
         ensures err { IfErr result (λ fault. (fault ≡ DebugFault.B4) ⊎ (command_in line.now self.old ≡ Err fault)) }
@@ -180,6 +184,7 @@ impl Session<WordCap> {
             &self.symbols,
             &mut self.stops,
             command,
+            &mut Count::new(progress),
         )
     }
 }

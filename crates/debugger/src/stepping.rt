@@ -5,24 +5,26 @@ ghost use Rattle.special_regs.specs.Scrs.{scr_value};
 ghost use Rattle.steps.specs.declared.event.Event.TheVariants.{Step, Tick};
 ghost use Rattle.steps.specs.Event.{sent as sent_at};
 ghost use Rattle.steps.specs.State.{pc_of};
-ghost use Rattle.steps.specs.Applying.{meant, IsPlanned};
-ghost use Rattle.steps.specs.Outcome.{is_trap, outcome_of};
+ghost use Rattle.steps.specs.Applying.{IsPlanned};
 ghost use Rattle.machine.specs.Run.{run_after, run_sent};
 ghost use Rattle.schedules.specs.Schedule.{is_halted};
 ghost use Rattle.sim_run.specs.Stopping.{is_stop as is_trap_met};
 ghost use Rattle.sim_run.specs.declared.stopping.StopAt.TheVariants.{Unfetched};
 ghost use Rattle.debugger.specs.Reply.{said_after};
-ghost use Rattle.debugger.specs.Stepping.{at_stops, ends, is_any_stop, is_at_end, is_end, is_stop, step_events};
+ghost use Rattle.debugger.specs.Marked.{ends_at, seen};
+ghost use Rattle.debugger.specs.Stepping.{is_at_end, step_events};
+ghost use Rattle.debugger.specs.Stops.{is_any_stop, is_end};
 ghost use Rattle.past.specs.Replay.{byte_events, is_over, replayed, step_done};
 ghost use Rattle.debugger.specs.Stepping.{steps_while as steps_while_of};
 ghost use Rattle.debugger.specs.Lines.{goes_on};
 
+use crate::marks::{Mark, is_any_stop, window_at};
 use cap_bounds::CapRep;
-use debug_commands::{Events, Stop};
+use debug_commands::Events;
 use machine::{Event, Machine, Planned};
 use past::Replay;
+use schedules::{Count, Progress, STRIDE};
 use sim_run::{StopAt, stops_before};
-use steps::Effect;
 
 /// The number of PCC.
 const PCC: u8 = 0;
@@ -36,85 +38,46 @@ pub(crate) fn pc<C: CapRep>(machine: &Machine<C>) -> u64
     machine.scr(PCC).address()
 }
 
-/// Whether an effect is a trap.
-#[tactic(auto, unfolding(steps::specs::Outcome::outcome_of))]
-fn is_trap_effect<C: CapRep>(effect: &Effect<C>) -> bool
-    ensures { result ≡ is_trap (outcome_of (meant C.value effect.now)) }
-{
-    matches!(effect, Effect::Trap(_))
-}
-
-/// Whether a machine that isn't halted, and whose next step was planned, is where steps stop.
-#[tactic(auto, unfolding(steps::specs::Outcome::step_outcome))]
-fn is_stop<C: CapRep>(machine: &Machine<C>, stop: Stop, planned: &Planned<C>) -> bool
-    requires planned { IsPlanned C.value planned.now.effect machine.now }
-    requires running { machine.now.devices.halted ≡ None }
-    ensures { result ≡ is_stop stop machine.now }
-{
-    match stop {
-        Stop::Address(address) => pc(machine) == address,
-        Stop::Trap => is_trap_effect(&planned.effect),
-    }
-}
-
-/// Whether it is at one of some stops.
-pub(crate) fn is_any_stop<C: CapRep>(
-    machine: &Machine<C>,
-    stops: &[Stop],
-    planned: &Planned<C>,
-) -> bool
-    requires planned { IsPlanned C.value planned.now.effect machine.now }
-    requires running { machine.now.devices.halted ≡ None }
-    ensures { result ≡ is_any_stop stops.now machine.now }
-{
-    match stops {
-        [] => false,
-        [first, rest @ ..] => {
-            is_stop(machine, *first, planned) || is_any_stop(machine, rest, planned)
-        }
-    }
-}
-
 /// Whether a machine that isn't halted, and whose next step was planned, is where steps end: at one of some stops, or, where it says so,
 /// before a trap whose entry can't be fetched.
 fn is_end<C: CapRep>(
     machine: &Machine<C>,
-    stops: &[Stop],
+    marks: &[Mark<C>],
     unfetched: bool,
     planned: &Planned<C>,
 ) -> bool
     requires planned { IsPlanned C.value planned.now.effect machine.now }
     requires running { machine.now.devices.halted ≡ None }
-    ensures { result ≡ is_end (ends stops.now unfetched) machine.now }
+    ensures { result ≡ is_end (ends_at C.value marks.now unfetched) machine.now }
 {
-    is_any_stop(machine, stops, planned)
+    is_any_stop(machine, marks, planned)
         || (unfetched && stops_before(machine, planned, StopAt::Unfetched, false))
 }
 
 /// Whether the next step is a trap whose entry can't be fetched, and no stop holds there.
-fn is_before_unfetched<C: CapRep>(machine: &Machine<C>, stops: &[Stop]) -> bool
-    ensures { result ≡ (is_trap_met Unfetched false machine.now && not (is_any_stop stops.now machine.now)) }
+fn is_before_unfetched<C: CapRep>(machine: &Machine<C>, marks: &[Mark<C>]) -> bool
+    ensures { result ≡ (is_trap_met Unfetched false machine.now && not (is_any_stop (seen C.value marks.now) machine.now)) }
 {
     if machine.halted().is_some() {
         return false;
     }
     let planned = machine.next();
     stops_before(machine, &planned, StopAt::Unfetched, false)
-        && !is_any_stop(machine, stops, &planned)
+        && !is_any_stop(machine, marks, &planned)
 }
 
 /// What a command says after its events, beside the line that tells of them.
 pub(crate) fn said_after<C: CapRep>(
     machine: &Machine<C>,
-    stops: &[Stop],
+    marks: &[Mark<C>],
     events: Events,
 ) -> &'static str
-    ensures text { result.now ≡ said_after events stops.now machine.now }
+    ensures text { result.now ≡ said_after events (seen C.value marks.now) machine.now }
     ensures bound { length result.now ≤ 50 }
 {
     match events {
         Events::Go { .. } => {
-            if is_before_unfetched(machine, stops) {
+            if is_before_unfetched(machine, marks) {
                 "before a trap whose entry can't be fetched\n"
             } else {
                 ""
@@ -146,14 +109,14 @@ fn keep_sent(sent: &mut Vec<u8>, byte: Option<u8>) -> u64
 /// machine isn't halted, and it isn't where steps end.
 fn next_given<C: CapRep>(
     machine: &Machine<C>,
-    stops: &[Stop],
+    marks: &[Mark<C>],
     unfetched: bool,
     left: u64,
     room: u64,
 ) -> Option<Planned<C>>
     ensures planned { IfSome result (λ planned. IsPlanned C.value planned.effect machine.now) }
-    ensures given { OnSome result (goes_on (ends stops.now unfetched) left room machine.now ≡ true) }
-    ensures stopped { IfNone result (goes_on (ends stops.now unfetched) left room machine.now ≡ false) }
+    ensures given { OnSome result (goes_on (ends_at C.value marks.now unfetched) left room machine.now ≡ true) }
+    ensures stopped { IfNone result (goes_on (ends_at C.value marks.now unfetched) left room machine.now ≡ false) }
     ensures few { OnSome result (0 < left) }
     ensures some { OnSome result (0 < room) }
 {
@@ -161,7 +124,7 @@ fn next_given<C: CapRep>(
         return None;
     }
     let planned = machine.next();
-    if is_end(machine, stops, unfetched, &planned) {
+    if is_end(machine, marks, unfetched, &planned) {
         return None;
     }
     Some(planned)
@@ -170,63 +133,69 @@ fn next_given<C: CapRep>(
 /// Gives steps of one run while they don't end, at most so many, and answers how many there were. They send nothing.
 fn run_towards<C: CapRep>(
     machine: &mut Machine<C>,
-    stops: &[Stop],
+    marks: &[Mark<C>],
     unfetched: bool,
     most: u64,
     room: u64,
 ) -> u64
     ensures few { result ≤ most }
-    ensures state { run_after (steps_while_of (ends stops.now unfetched) (ends stops.now unfetched)
+    ensures state { run_after (steps_while_of (ends_at C.value marks.now unfetched) (ends_at C.value marks.now unfetched)
         None (most - result) room machine.new) machine.new
-        ≡ run_after (steps_while_of (ends stops.now unfetched) (ends stops.now unfetched) None most room machine.old) machine.old }
-    ensures bytes { run_sent (steps_while_of (ends stops.now unfetched) (ends stops.now unfetched)
+        ≡ run_after (steps_while_of (ends_at C.value marks.now unfetched) (ends_at C.value marks.now unfetched)
+        None most room machine.old) machine.old }
+    ensures bytes { run_sent (steps_while_of (ends_at C.value marks.now unfetched) (ends_at C.value marks.now unfetched)
         None (most - result) room machine.new) machine.new
-        ≡ run_sent (steps_while_of (ends stops.now unfetched) (ends stops.now unfetched) None most room machine.old) machine.old }
-    ensures count { result + length (steps_while_of (ends stops.now unfetched) (ends stops.now unfetched)
+        ≡ run_sent (steps_while_of (ends_at C.value marks.now unfetched) (ends_at C.value marks.now unfetched)
+        None most room machine.old) machine.old }
+    ensures count { result + length (steps_while_of (ends_at C.value marks.now unfetched) (ends_at C.value marks.now unfetched)
         None (most - result) room machine.new)
-        ≡ length (steps_while_of (ends stops.now unfetched) (ends stops.now unfetched) None most room machine.old) }
+        ≡ length (steps_while_of (ends_at C.value marks.now unfetched) (ends_at C.value marks.now unfetched) None most room machine.old) }
 {
     if room == 0 {
         return 0;
     }
-    match stops {
-        [] => machine.advance_short_of(None, most),
-        [stop] => machine.advance_short_of(stop.address(), most),
-        _ => 0,
+    match window_at(marks, pc(machine)) {
+        Some(window) => machine.advance_between(window.low, window.high, most.min(STRIDE)),
+        None => 0,
     }
 }
 
 /// Gives steps without a schedule until the machine is where they end or is halted, at most so many, and at most so many that send a
-/// byte. Answers how many there were. Before the first of them they end elsewhere than later: at the first stops alone.
-fn steps_until<C: CapRep>(
+/// byte. Counts them, and answers how many there were. Before the first of them they end elsewhere than later: at the first stops alone.
+fn steps_until<C: CapRep, P: Progress>(
     machine: &mut Machine<C>,
-    first: &[Stop],
-    later: &[Stop],
+    first: &[Mark<C>],
+    later: &[Mark<C>],
     unfetched: bool,
     most: u64,
     most_sent: u64,
     sent: &mut Vec<u8>,
+    counted: &mut Count<'_, P>,
 ) -> u64
     requires { vec_len sent.old + most_sent ≤ vec_capacity sent.old }
     ensures state { machine.new
-        ≡ run_after (steps_while_of (at_stops first.now) (ends later.now unfetched) None most most_sent machine.old) machine.old }
+        ≡ run_after (steps_while_of (ends_at C.value first.now false)
+        (ends_at C.value later.now unfetched) None most most_sent machine.old) machine.old }
     ensures bytes { sent.new.items
-        ≡ sent.old.items ++ run_sent (steps_while_of (at_stops first.now) (ends later.now unfetched)
+        ≡ sent.old.items ++ run_sent (steps_while_of (ends_at C.value first.now false) (ends_at C.value later.now unfetched)
         None most most_sent machine.old) machine.old }
-    ensures count { result ≡ length (steps_while_of (at_stops first.now) (ends later.now unfetched) None most most_sent machine.old) }
+    ensures count { result ≡ length (steps_while_of (ends_at C.value first.now false)
+        (ends_at C.value later.now unfetched) None most most_sent machine.old) }
     ensures len { vec_len sent.new ≤ vec_len sent.old + most_sent }
 {
-    let mut stops = first;
-    let mut stops_unfetched = false;
+    let mut marks = first;
+    let mut ends_unfetched = false;
     let mut left = most;
     let mut room = most_sent;
-    while let Some(planned) = next_given(machine, stops, stops_unfetched, left, room) {
+    while let Some(planned) = next_given(machine, marks, ends_unfetched, left, room) {
         let out = machine.apply(planned);
         room -= keep_sent(sent, out.byte);
-        stops = later;
-        stops_unfetched = unfetched;
+        marks = later;
+        ends_unfetched = unfetched;
         left -= 1;
-        left -= run_towards(machine, later, unfetched, left, room);
+        let fast = run_towards(machine, later, unfetched, left, room);
+        counted.pass(1 + fast);
+        left -= fast;
     }
     most - left
 }
@@ -315,78 +284,87 @@ fn give_step<C: CapRep>(
 }
 
 /// The same as `steps_until` on a schedule: each step with the byte before it and the tick after it. Answers how many events there were.
-pub(crate) fn steps_replayed<C: CapRep>(
+pub(crate) fn steps_replayed<C: CapRep, P: Progress>(
     machine: &mut Machine<C>,
     replay: &mut Replay,
-    first: &[Stop],
-    later: &[Stop],
+    first: &[Mark<C>],
+    later: &[Mark<C>],
     unfetched: bool,
     most: u64,
     most_sent: u64,
     sent: &mut Vec<u8>,
+    counted: &mut Count<'_, P>,
 ) -> u64
     requires room { vec_len sent.old + most_sent ≤ vec_capacity sent.old }
     requires few { most ≤ 1000000000000 }
-    ensures state { machine.new ≡ run_after (steps_while_of (at_stops first.now) (ends later.now unfetched)
+    ensures state { machine.new ≡ run_after (steps_while_of (ends_at C.value first.now false) (ends_at C.value later.now unfetched)
         (Some replay.old) most most_sent machine.old) machine.old }
     ensures bytes { sent.new.items
-        ≡ sent.old.items ++ run_sent (steps_while_of (at_stops first.now) (ends later.now unfetched)
+        ≡ sent.old.items ++ run_sent (steps_while_of (ends_at C.value first.now false) (ends_at C.value later.now unfetched)
         (Some replay.old) most most_sent machine.old) machine.old }
-    ensures replay { replay.new ≡ replayed (steps_while_of (at_stops first.now) (ends later.now unfetched)
+    ensures replay { replay.new ≡ replayed (steps_while_of (ends_at C.value first.now false) (ends_at C.value later.now unfetched)
         (Some replay.old) most most_sent machine.old) replay.old }
     ensures count { result
-        ≡ length (steps_while_of (at_stops first.now) (ends later.now unfetched) (Some replay.old) most most_sent machine.old) }
+        ≡ length (steps_while_of (ends_at C.value first.now false) (ends_at C.value later.now unfetched)
+        (Some replay.old) most most_sent machine.old) }
     ensures len { vec_len sent.new ≤ vec_len sent.old + most_sent }
 {
-    let mut stops = first;
-    let mut stops_unfetched = false;
+    let mut marks = first;
+    let mut ends_unfetched = false;
     let mut left = most;
     let mut room = most_sent;
     let mut count = 0;
     while left > 0 && !is_at_end(machine, replay, room) {
         count += bring(machine, replay);
         let planned = machine.next();
-        if is_end(machine, stops, stops_unfetched, &planned) {
+        if is_end(machine, marks, ends_unfetched, &planned) {
             return count;
         }
         let met = give_step(machine, replay, planned, sent);
         count += met.events;
         room -= met.sent;
-        stops = later;
-        stops_unfetched = unfetched;
+        counted.pass(1);
+        marks = later;
+        ends_unfetched = unfetched;
         left -= 1;
     }
     count
 }
 
 /// The same with the schedule of a session, if there is one, or without.
-pub(crate) fn steps_while<C: CapRep>(
+pub(crate) fn steps_while<C: CapRep, P: Progress>(
     machine: &mut Machine<C>,
     replay: &mut Option<Replay>,
-    first: &[Stop],
-    later: &[Stop],
+    first: &[Mark<C>],
+    later: &[Mark<C>],
     unfetched: bool,
     most: u64,
     most_sent: u64,
     sent: &mut Vec<u8>,
+    counted: &mut Count<'_, P>,
 ) -> u64
     requires room { vec_len sent.old + most_sent ≤ vec_capacity sent.old }
     requires few { most ≤ 1000000000000 }
     ensures state { machine.new
-        ≡ run_after (steps_while_of (at_stops first.now) (ends later.now unfetched) replay.old most most_sent machine.old) machine.old }
+        ≡ run_after (steps_while_of (ends_at C.value first.now false) (ends_at C.value later.now unfetched)
+        replay.old most most_sent machine.old) machine.old }
     ensures bytes { sent.new.items
-        ≡ sent.old.items ++ run_sent (steps_while_of (at_stops first.now) (ends later.now unfetched)
+        ≡ sent.old.items ++ run_sent (steps_while_of (ends_at C.value first.now false) (ends_at C.value later.now unfetched)
         replay.old most most_sent machine.old) machine.old }
     ensures replay { replay.new
-        ≡ option_map (replayed (steps_while_of (at_stops first.now) (ends later.now unfetched) replay.old most most_sent machine.old))
+        ≡ option_map (replayed (steps_while_of (ends_at C.value first.now false) (ends_at C.value later.now unfetched)
+        replay.old most most_sent machine.old))
         replay.old }
-    ensures count { result ≡ length (steps_while_of (at_stops first.now) (ends later.now unfetched) replay.old most most_sent machine.old) }
+    ensures count { result ≡ length (steps_while_of (ends_at C.value first.now false)
+        (ends_at C.value later.now unfetched) replay.old most most_sent machine.old) }
     ensures len { vec_len sent.new ≤ vec_len sent.old + most_sent }
 {
     match replay {
         Some(replay) => steps_replayed(
-            machine, replay, first, later, unfetched, most, most_sent, sent,
+            machine, replay, first, later, unfetched, most, most_sent, sent, counted,
         ),
-        None => steps_until(machine, first, later, unfetched, most, most_sent, sent),
+        None => steps_until(
+            machine, first, later, unfetched, most, most_sent, sent, counted,
+        ),
     }
 }

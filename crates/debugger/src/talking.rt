@@ -16,6 +16,7 @@ use crate::session::Session;
 use arrayvec::ArrayVec;
 use debug_commands::DebugFault;
 use image::{Sink, Source, write_all};
+use schedules::{Nobody, Progress};
 use word_cap::WordCap;
 
 /// The most bytes of a line that are kept: a longer line is refused for its length, as its beginning is.
@@ -70,10 +71,11 @@ fn write_refusal<W: Sink>(sink: &mut W, fault: DebugFault) -> Result<(), TalkFau
 }
 
 /// Does what a line asks for, writes its reply, and answers whether it ends the conversation.
-fn answer_line<W: Sink>(
+fn answer_line<W: Sink, P: Progress>(
     session: &mut Session<WordCap>,
     sink: &mut W,
     line: &[u8],
+    progress: &mut P,
 ) -> Result<bool, TalkFault>
     requires { W.failed sink.old < 2 ^ 64 - 1 }
     ensures last { IfOk result (λ last. last ≡ is_last line.now session.old) }
@@ -83,7 +85,7 @@ fn answer_line<W: Sink>(
         (standing_with session.old None (W.held sink.old)) (standing_with session.new None (W.held sink.new))) }
     ensures count { CountsWrites (W.failed sink.old) (W.failed sink.new) result }
 {
-    match session.command_bytes(line) {
+    match session.command_bytes(line, progress) {
         Ok(Reply::Quit) => Ok(true),
         Ok(Reply::Text(text)) => {
             write(sink, text.as_str())?;
@@ -107,11 +109,12 @@ fn keep(line: &mut ArrayVec<u8, MOST_KEPT>, byte: u8)
 
 /// Answers each line that ends with a line feed, up to the end of the input or the line that ends the conversation, and answers
 /// whether such a line came. `line` is empty before, and holds the last line's beginning after.
-fn hear<R: Source, W: Sink>(
+fn hear<R: Source, W: Sink, P: Progress>(
     session: &mut Session<WordCap>,
     source: &mut R,
     sink: &mut W,
     line: &mut ArrayVec<u8, MOST_KEPT>,
+    progress: &mut P,
 ) -> Result<bool, TalkFault>
     requires source { R.failed source.old < 2 ^ 64 - 1 }
     requires sink { W.failed sink.old < 2 ^ 64 - 1 }
@@ -130,7 +133,7 @@ fn hear<R: Source, W: Sink>(
             return Ok(false);
         };
         if byte == b'\n' {
-            if answer_line(session, sink, line.as_slice())? {
+            if answer_line(session, sink, line.as_slice(), progress)? {
                 return Ok(true);
             }
             line.clear();
@@ -165,10 +168,31 @@ pub fn talk<R: Source, W: Sink>(
     ensures reads { CountsReads (R.failed source.old) (R.failed source.new) result }
     ensures writes { CountsWrites (W.failed sink.old) (W.failed sink.new) result }
 {
+    talk_told(session, source, sink, &mut Nobody)
+}
+
+/// The same, and `progress` is told from time to time how many events a command gave or searched.
+pub fn talk_told<R: Source, W: Sink, P: Progress>(
+    session: &mut Session<WordCap>,
+    source: &mut R,
+    sink: &mut W,
+    progress: &mut P,
+) -> Result<(), TalkFault>
+    requires source { R.failed source.old < 2 ^ 64 - 1 }
+    requires sink { W.failed sink.old < 2 ^ 64 - 1 }
+    ensures ok { OnOk result (IfSome (R.left source.old) (λ input. IsTold input
+        (standing_with session.old (R.left source.old) (W.held sink.old))
+        (standing_with session.new (R.left source.new) (W.held sink.new)))) }
+    ensures err { IfErr result (λ fault. LeavesOff fault
+        (standing_with session.old (R.left source.old) (W.held sink.old))
+        (standing_with session.new (R.left source.new) (W.held sink.new))) }
+    ensures reads { CountsReads (R.failed source.old) (R.failed source.new) result }
+    ensures writes { CountsWrites (W.failed sink.old) (W.failed sink.new) result }
+{
     let mut line = ArrayVec::new();
-    let is_over = hear(session, source, sink, &mut line)?;
+    let is_over = hear(session, source, sink, &mut line, progress)?;
     if !is_over && !line.is_empty() {
-        answer_line(session, sink, line.as_slice())?;
+        answer_line(session, sink, line.as_slice(), progress)?;
     }
     Ok(())
 }

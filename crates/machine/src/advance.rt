@@ -1,8 +1,9 @@
 //! Many steps in one call, and runs of them among other events.
 
-ghost use Rattle.std.specs.Prelude.{◌≡◌, ◌≤◌, ◌-◌, ℕ, ◌<◌, [], length, take, replicate, option_to_list};
+ghost use Rattle.std.specs.Prelude.{◌≡◌, ◌≤◌, ◌-◌, ℕ, ◌<◌, [], None, length, take, replicate, option_to_list};
 ghost use Rattle.steps.specs.declared.event.Event.TheVariants.{Step};
 ghost use Rattle.steps.specs.IsState.{IsState};
+ghost use Rattle.steps.specs.State.{pc_of};
 ghost use Rattle.steps.specs.Steps.{GoesBy};
 ghost use Rattle.machine.specs.Run.{run_after, run_sent};
 ghost use Rattle.machine.specs.Steps.{BeginWithSteps};
@@ -72,6 +73,22 @@ impl<C: CapRep> Machine<C> {
         ensures is_state { IsState self.new }
     {
         self.hart.advance_short_of(stop, most)
+    }
+
+    /// Does steps as `advance_short_of` does, short of no address: it ends before a step that stands below `low`, or at `high` or above.
+    ///
+    /// They are those of `event`, and none of them sends a byte. A halted machine does none. It takes no memory.
+    #[inline]
+    pub fn advance_between(&mut self, low: u64, high: u64, most: u64) -> u64
+        ensures few { result ≤ most }
+        ensures state { self.new ≡ run_after (replicate result Step) self.old }
+        ensures silent { run_sent (replicate result Step) self.old ≡ [] }
+        ensures goes { (k : ℕ) → k < result → GoesBy None (run_after (replicate k Step) self.old) }
+        ensures low { (k : ℕ) → k < result → low ≤ pc_of (run_after (replicate k Step) self.old) }
+        ensures high { (k : ℕ) → k < result → pc_of (run_after (replicate k Step) self.old) < high }
+        ensures is_state { IsState self.new }
+    {
+        self.hart.advance_between(low, high, most)
     }
 
     /// Meets the first of events, or of the steps that they begin with as many as are done at once, and answers how many those are.

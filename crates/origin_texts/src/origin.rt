@@ -19,6 +19,7 @@ use cap_bounds::CapRep;
 use machine::Machine;
 use origins::{Found, Place, Sought, held, tag_asked};
 use past::{Past, Replay};
+use schedules::{Count, Progress};
 use std::alloc::{AllocError, Global};
 use symbols::Symbols;
 use texts::Piece::Text;
@@ -42,18 +43,19 @@ fn machine_after(
 }
 
 /// The last of the first events that does what is sought.
-fn last_among(
+fn last_among<P: Progress>(
     alloc: Global,
     past: &Past,
     replay: Option<&Replay>,
     sought: Sought,
     place: Place,
     events: u64,
+    counted: &mut Count<'_, P>,
 ) -> Result<Option<Found>, AllocError>
     requires { IsThere place (opening past.now.image) }
     ensures found { IfOk result (λ found. found ≡ spec.last_among past.now (option_copied replay.entry) sought events place) }
 {
-    match past.last::<WordCap>(alloc, replay, sought, place, events) {
+    match past.last::<WordCap, P>(alloc, replay, sought, place, events, counted) {
         Ok((found, _)) => Ok(found),
         Err(_) => Err(AllocError),
     }
@@ -71,7 +73,7 @@ fn onward(source: Option<Place>, before: u64) -> Option<(Place, u64)>
 
 /// Appends the line of the last of the first events that wrote a place, or what the opening state of the image has there, and answers
 /// what is told of next.
-fn append_next(
+fn append_next<P: Progress>(
     text: &mut String,
     alloc: Global,
     symbols: &Symbols,
@@ -79,13 +81,15 @@ fn append_next(
     replay: Option<&Replay>,
     place: Place,
     events: u64,
+    counted: &mut Count<'_, P>,
 ) -> Result<Option<(Place, u64)>, AllocError>
     requires { IsThere place (opening past.now.image) }
     ensures text { IfOk result (λ next. (tell : Place → ℕ → List ℕ) → string_bytes text.new ++ tell_on tell next
         ≡ string_bytes text.old ++ spec.origin_in symbols.now past.now (option_copied replay.entry) tell place events) }
     ensures there { IfOk result (λ next. IfSome next (λ p. IsThere p.0 (opening past.now.image) × (p.1 < events))) }
 {
-    let Some(found) = last_among(alloc, past, replay, Sought::Written, place, events)? else {
+    let Some(found) = last_among(alloc, past, replay, Sought::Written, place, events, counted)?
+    else {
         append_opening(
             text,
             symbols,
@@ -102,19 +106,20 @@ fn append_next(
 /// Appends how what a place holds came to be: the last event that wrote it, and so on with its source, down to the opening state of the
 /// image or to a number. Each is one line.
 ///
-/// Each line costs a pass over the events before it.
+/// Each line costs a pass over the events before it, which `counted` counts.
 ///
 /// # Errors
 ///
 /// Out of memory.
 #[tactic(auto, unfolding(crate::specs::Origin::origin_text))]
-pub fn put_origin(
+pub fn put_origin<P: Progress>(
     text: &mut String,
     alloc: Global,
     symbols: &Symbols,
     past: &Past,
     replay: Option<&Replay>,
     place: Place,
+    counted: &mut Count<'_, P>,
 ) -> Result<(), AllocError>
     requires { IsThere place (opening past.now.image) }
     ensures { OnOk result (string_bytes text.new
@@ -122,7 +127,7 @@ pub fn put_origin(
 {
     let mut next = Some((place, past.count()));
     while let Some((place, events)) = next {
-        next = append_next(text, alloc, symbols, past, replay, place, events)?;
+        next = append_next(text, alloc, symbols, past, replay, place, events, counted)?;
     }
     Ok(())
 }
@@ -162,7 +167,7 @@ fn append_loss<C: CapRep>(
 
 /// Appends what is told of the last of the first events at which the tag of a place went, if there was one, and answers what is told of
 /// next: the source, if it had no tag either.
-fn append_next_loss(
+fn append_next_loss<P: Progress>(
     text: &mut String,
     alloc: Global,
     symbols: &Symbols,
@@ -170,13 +175,14 @@ fn append_next_loss(
     replay: Option<&Replay>,
     place: Place,
     events: u64,
+    counted: &mut Count<'_, P>,
 ) -> Result<Option<(Place, u64)>, AllocError>
     requires { IsThere place (opening past.now.image) }
     ensures text { IfOk result (λ next. (tell : Place → ℕ → List ℕ) → string_bytes text.new ++ tell_on tell next
         ≡ string_bytes text.old ++ spec.loss_in symbols.now past.now (option_copied replay.entry) tell place events) }
     ensures there { IfOk result (λ next. IfSome next (λ p. IsThere p.0 (opening past.now.image) × (p.1 < events))) }
 {
-    let Some(found) = last_among(alloc, past, replay, Sought::Lost, place, events)? else {
+    let Some(found) = last_among(alloc, past, replay, Sought::Lost, place, events, counted)? else {
         return Ok(None);
     };
     let mut machine = machine_after(alloc, past, replay, found.before)?;
@@ -186,13 +192,14 @@ fn append_next_loss(
 }
 
 /// Appends where the tag of a place went, or nothing where it never did.
-fn append_losses(
+fn append_losses<P: Progress>(
     text: &mut String,
     alloc: Global,
     symbols: &Symbols,
     past: &Past,
     replay: Option<&Replay>,
     place: Place,
+    counted: &mut Count<'_, P>,
 ) -> Result<(), AllocError>
     requires { IsThere place (opening past.now.image) }
     ensures { OnOk result (string_bytes text.new
@@ -200,7 +207,7 @@ fn append_losses(
 {
     let mut next = Some((place, past.count()));
     while let Some((place, events)) = next {
-        next = append_next_loss(text, alloc, symbols, past, replay, place, events)?;
+        next = append_next_loss(text, alloc, symbols, past, replay, place, events, counted)?;
     }
     Ok(())
 }
@@ -208,26 +215,27 @@ fn append_losses(
 /// Appends where the tag of a place went: the last event at which it did, with the conditions of the tag, and where its source had none
 /// either, where that one's went.
 ///
-/// Each event costs a pass over those before it.
+/// Each event costs a pass over those before it, which `counted` counts.
 ///
 /// # Errors
 ///
 /// Out of memory.
 #[tactic(auto, unfolding(crate::specs::Origin::lost_text))]
-pub fn put_lost(
+pub fn put_lost<P: Progress>(
     text: &mut String,
     alloc: Global,
     symbols: &Symbols,
     past: &Past,
     replay: Option<&Replay>,
     place: Place,
+    counted: &mut Count<'_, P>,
 ) -> Result<(), AllocError>
     requires { IsThere place (opening past.now.image) }
     ensures { OnOk result (string_bytes text.new
         ≡ string_bytes text.old ++ spec.lost_text symbols.now past.now (option_copied replay.entry) place) }
 {
     let mut lines = String::new(alloc);
-    append_losses(&mut lines, alloc, symbols, past, replay, place)?;
+    append_losses(&mut lines, alloc, symbols, past, replay, place, counted)?;
     if !lines.is_empty() {
         return append(text, &[Text(lines.as_str())]);
     }

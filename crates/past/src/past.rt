@@ -18,6 +18,7 @@ use cap_bounds::CapRep;
 use image::Image;
 use machine::{Machine, MachineFault};
 use origins::{Found, Place, Sought};
+use schedules::{Count, Progress};
 use std::alloc::{AllocError, Global};
 use std::marker::Model;
 
@@ -126,14 +127,15 @@ impl Past {
     }
 
     /// The last of the first `n` events that does what is sought at a place, with how many events were before it and how it made what it
-    /// wrote, and a machine after these `n`. M2 where there is no memory for the machine, and no other fault.
-    pub fn last<C: CapRep>(
+    /// wrote, and a machine after these `n`; `counted` counts them. M2 where there is no memory for the machine, and no other fault.
+    pub fn last<C: CapRep, P: Progress>(
         &self,
         alloc: Global,
         replay: Option<&Replay>,
         sought: Sought,
         place: Place,
         n: u64,
+        counted: &mut Count<'_, P>,
     ) -> Result<(Option<Found>, Machine<C>), MachineFault>
         requires { IsThere place (opening self.now.image) }
         ensures found { IfOk result (λ p. p.0
@@ -142,7 +144,7 @@ impl Past {
         ensures fault { IfErr result (λ fault. fault ≡ MachineFault.M2) }
     {
         let mut machine = Machine::new(alloc, &self.image)?;
-        let found = last_of(&mut machine, replay, sought, place, &self.given, n);
+        let found = last_of(&mut machine, replay, sought, place, &self.given, n, counted);
         Ok((found, machine))
     }
 }

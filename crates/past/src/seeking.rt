@@ -16,14 +16,16 @@ use crate::replay::Replay;
 use cap_bounds::CapRep;
 use machine::Machine;
 use origins::{Found, Place, Search, Sought};
+use schedules::{Count, Progress};
 
 /// Meets so many events of a command.
-fn meet_some<C: CapRep>(
+fn meet_some<C: CapRep, P: Progress>(
     search: &mut Search,
     machine: &mut Machine<C>,
     player: &mut Player,
     given: Given,
     n: u64,
+    counted: &mut Count<'_, P>,
 )
     requires may { MayGive n player.old }
     requires there { IsThere search.old.place machine.old }
@@ -38,17 +40,19 @@ fn meet_some<C: CapRep>(
     let mut left = n;
     while left > 0 {
         search.meet(machine, next_of(player, given));
+        counted.pass(1);
         left -= 1;
     }
 }
 
 /// Meets the first events of commands, so many of them.
-fn meet_first<C: CapRep>(
+fn meet_first<C: CapRep, P: Progress>(
     search: &mut Search,
     machine: &mut Machine<C>,
     player: &mut Player,
     all: &[Given],
     n: u64,
+    counted: &mut Count<'_, P>,
 )
     requires may { MayGive n player.old }
     requires there { IsThere search.old.place machine.old }
@@ -59,19 +63,21 @@ fn meet_first<C: CapRep>(
     let mut left = n;
     for given in all {
         let some = count_of_one(*given).min(left);
-        meet_some(search, machine, player, *given, some);
+        meet_some(search, machine, player, *given, some, counted);
         left -= some;
     }
 }
 
-/// The last of the first events of commands that does what is sought at a place, from the beginning of a session's steps.
-pub(crate) fn last_of<C: CapRep>(
+/// The last of the first events of commands that does what is sought at a place, from the beginning of a session's steps. Counts the
+/// events.
+pub(crate) fn last_of<C: CapRep, P: Progress>(
     machine: &mut Machine<C>,
     replay: Option<&Replay>,
     sought: Sought,
     place: Place,
     all: &[Given],
     n: u64,
+    counted: &mut Count<'_, P>,
 ) -> Option<Found>
     requires { IsThere place machine.old }
     ensures state { machine.new ≡ run_after (take n (events_of all.now (beginning (option_copied replay.entry)))) machine.old }
@@ -79,6 +85,6 @@ pub(crate) fn last_of<C: CapRep>(
 {
     let mut player = Player::at_beginning(replay);
     let mut search = Search::new(sought, place);
-    meet_first(&mut search, machine, &mut player, all, n);
+    meet_first(&mut search, machine, &mut player, all, n, counted);
     search.found
 }

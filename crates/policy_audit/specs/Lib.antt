@@ -8,4 +8,6 @@ pub mod Entries
 -- Inner words
 pub mod Look
 pub mod Recalled
-pub mod Turn
+pub mod Watched
+-- Laws
+pub mod WatchedLaws

@@ -1,23 +1,26 @@
 //! The ranges of code that a run enters.
-ghost use Rattle.std.specs.Prelude.{◌≡◌, ◌<◌, ◌++◌, false, bytes_eq, option_map, option_to_list, IfOk, OnOk, string_bytes};
-ghost use Rattle.std.specs.List.{list_any};
+ghost use Rattle.std.specs.Prelude.{◌≡◌, ◌++◌, false, bytes_eq, option_map, option_to_list, IfOk, OnOk, [], ◌∷◌, ⊤, string_bytes};
+ghost use Rattle.std.specs.List.{flat_map, list_any};
+ghost use Rattle.steps.specs.declared.event.Event.TheVariants.{Step};
 ghost use Rattle.machine.specs.Run.{run_after};
 ghost use Rattle.policy.specs.Watch.{values_in};
 ghost use Rattle.reach.specs.Ranges.{bounds_of};
 ghost use Rattle.schedules.specs.Schedule.{is_halted, scheduled, IsRunnable};
-ghost use Rattle.policy_audit.specs.Entries.{adds_entry, entries_text, entry_rule, entry_rules, is_entered, rule_told, says_entry};
+ghost use Rattle.schedules.specs.declared.pace.Pace.{Pace};
+ghost use Rattle.schedules.specs.declared.pace.Speed.TheVariants.{Each};
+ghost use Rattle.policy_audit.specs.Entries.{adds_entry, entries_text, entry_rule, entry_rules, is_entered, rule_told};
 ghost use Rattle.policy_audit.specs.Object.{rule_object};
 ghost use Rattle.policy_audit.specs.Recalled.{recalled};
-ghost use Rattle.policy_audit.specs.Told.{remembered, told};
-ghost use Rattle.policy_audit.specs.Turn.{turn_of};
+ghost use Rattle.policy_audit.specs.Watched.{Listed};
+ghost use Rattle.policy_audit.specs.WatchedLaws.{listed_more, listed_none};
 
 use crate::line::append_rule;
-use crate::turn::{bring, step};
 use cap_bounds::CapRep;
+use hart::Planned;
 use machine::Machine;
 use objects::{Item, object_line};
 use reach::{Range, Reach};
-use schedules::Schedule;
+use schedules::{How, Pace, Schedule, Speed, Walking, Watch, walk_whole};
 use std::alloc::{AllocError, Global};
 use texts::Piece::Text;
 use texts::append;
@@ -123,10 +126,9 @@ fn tell<C: CapRep>(
     json: bool,
     entries: &mut Entries,
     machine: &Machine<C>,
-    number: u64,
 ) -> Result<(), AllocError>
     ensures text { OnOk result (string_bytes text.new
-        ≡ string_bytes text.old ++ says_entry json (recalled entries.old) number machine.now) }
+        ≡ string_bytes text.old ++ flat_map (rule_told json) (entry_rules (recalled entries.old) machine.now)) }
     ensures recalled { OnOk result (recalled entries.new ≡ adds_entry (recalled entries.old) machine.now) }
 {
     let rule = entered(alloc, entries, machine)?;
@@ -138,30 +140,68 @@ fn tell<C: CapRep>(
     Ok(())
 }
 
-/// Does the step after so many others, with the byte before it and the tick after it, and appends what is entered before it.
-fn tell_around<C: CapRep>(
-    text: &mut String,
+/// A watch that appends the line of each range of code that is entered.
+#[derive(Drop)]
+struct Lister<'a> {
+    text: &'a mut String,
     alloc: Global,
     json: bool,
-    entries: &mut Entries,
-    machine: &mut Machine<C>,
-    schedule: Schedule,
-    input: &[u8],
-    done: u64,
-) -> Result<(), AllocError>
-    requires range { IsRunnable schedule }
-    requires more { done < schedule.steps }
-    requires running { is_halted machine.old ≡ false }
-    ensures state { OnOk result (machine.new ≡ run_after (turn_of schedule input.now done machine.old) machine.old) }
-    ensures text { OnOk result (string_bytes text.new ≡ string_bytes text.old ++ told (says_entry json) adds_entry done
-        (turn_of schedule input.now done machine.old) (recalled entries.old) machine.old) }
-    ensures recalled { OnOk result (recalled entries.new
-        ≡ remembered adds_entry (turn_of schedule input.now done machine.old) (recalled entries.old) machine.old) }
-{
-    bring(machine, schedule.byte_before(input, done + 1));
-    tell(text, alloc, json, entries, machine, done + 1)?;
-    step(machine, schedule.is_tick_after(done + 1));
-    Ok(())
+    entries: &'a mut Entries,
+}
+
+impl<C: CapRep> Watch<Machine<C>> for Lister<'_> {
+    type Fault = AllocError;
+
+    ghost Saw = { λ events s a b. Listed events s a b };
+
+    ghost Lost = { λ _ _ _ _ _. ⊥ };
+
+    ghost Barred = { λ _ _ _ _ _. ⊤ };
+
+    ghost Asked = { λ s a b. Listed (Step ∷ []) s a b };
+
+    ghost IsReady = { λ _. ⊤ };
+
+    ghost pace_of = { λ _. record { speed = Each; most = 18446744073709551615 } };
+
+    ghost stops_at = { λ _ _. false };
+
+    ghost starts = { λ s w. listed_none s w };
+
+    ghost goes_on = { λ xs ys s u v w first later. listed_more xs ys s u v w first later };
+
+    ghost fails_later = { λ fault xs ys s u v w first later. later };
+
+    ghost bars_later = { λ fault xs ys s u v w first later. tt };
+
+    fn pace(&self) -> Pace {
+        Pace::of(Speed::Each)
+    }
+
+    fn stops(&self, _machine: &Machine<C>, _planned: &Planned<C>) -> bool {
+        false
+    }
+
+    #[tactic(auto, using(crate::specs::WatchedLaws::listed_none))]
+    fn came(&mut self, _machine: &Machine<C>) {}
+
+    fn passed(
+        &mut self,
+        _machine: &Machine<C>,
+        _steps: u64,
+        _sent: Option<u8>,
+    ) -> Result<(), AllocError> {
+        Ok(())
+    }
+
+    fn before(&mut self, machine: &Machine<C>, _planned: &Planned<C>) -> Result<(), AllocError> {
+        tell(self.text, self.alloc, self.json, self.entries, machine)?;
+        Ok(())
+    }
+
+    fn after(&mut self, _machine: &Machine<C>, _sent: Option<u8>) -> Result<(), AllocError> {
+        Ok(())
+    }
 }
 
 /// Runs a machine on a schedule, and appends a line for each range of code that it enters, the line of a policy or an object: what the code
@@ -192,22 +232,19 @@ pub fn entries_run<C: CapRep>(
         code: None,
         rules: Vec::new(alloc),
     };
-    let mut done = 0;
-    while done < schedule.steps {
-        tell_around(
-            text,
-            alloc,
-            json,
-            &mut entries,
-            machine,
-            schedule,
-            input,
-            done,
-        )?;
-        done += 1;
-        if machine.halted().is_some() {
-            return Ok(());
-        }
+    let mut lister = Lister {
+        text,
+        alloc,
+        json,
+        entries: &mut entries,
+    };
+    let Walking { how, steps: _ } = walk_whole(machine, schedule, input, &mut lister);
+    match how {
+        How::Done | How::Halted => Ok(()),
+        // Nothing stops that watch.
+        How::Stopped => unreachable!(),
+        // Memory is taken before a step.
+        How::Failed(_) => unreachable!(),
+        How::Barred(fault) => Err(fault),
     }
-    Ok(())
 }

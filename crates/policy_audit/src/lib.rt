@@ -14,7 +14,6 @@ mod report;
 mod rules;
 mod run;
 mod search;
-mod turn;
 mod types;
 
 pub use audit::Audit;

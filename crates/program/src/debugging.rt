@@ -11,10 +11,10 @@ ghost use Rattle.program.specs.Debugging.{AreKeys, DebugsFile, FailsToDebug, IsT
 use commands::{
     Folder, LoadedProgram, ProgramFault, ProgramMachine, Writing, load_program, read_text,
 };
-use debugger::{Session, TalkFault, talk};
+use debugger::{Session, TalkFault, talk_told};
 use image::{DeviceFailed, FromRead, Image};
 use machine::Machine;
-use schedules::Schedule;
+use schedules::{Progress, Schedule};
 use std::alloc::Global;
 use std::io::{Read, Write};
 use symbols::Symbols;
@@ -67,11 +67,12 @@ fn cut_short<'a>(fault: TalkFault) -> ProgramFault<'a>
     }
 }
 
-/// Talks with a session: commands from `input`, replies to `output`, which is handed back.
-fn talk_with<'a, I: Read + Drop, O: Write + Drop>(
+/// Talks with a session: commands from `input`, replies to `output`, which is handed back; whoever waits is told how far a command came.
+fn talk_with<'a, I: Read + Drop, O: Write + Drop, P: Progress>(
     session: &mut Session<WordCap>,
     input: I,
     output: O,
+    progress: &mut P,
 ) -> Result<O, ProgramFault<'a>>
     ensures ok { IfOk result (λ out. IfSome (I.remaining input) (λ typed. Appends (O.contents output) (O.contents out)
         (conversation (heard typed) session.old))) }
@@ -79,14 +80,14 @@ fn talk_with<'a, I: Read + Drop, O: Write + Drop>(
 {
     let mut source = FromRead::new(input);
     let mut sink = Writing::new(output);
-    match talk(session, &mut source, &mut sink) {
+    match talk_told(session, &mut source, &mut sink, progress) {
         Ok(()) => Ok(sink.into_inner()),
         Err(fault) => Err(cut_short(fault)),
     }
 }
 
 /// Debugs an image: commands from `input`, which may name the labels of a table, replies to `output`, which is handed back.
-fn debug_image<'a, I: Read + Drop, O: Write + Drop>(
+fn debug_image<'a, I: Read + Drop, O: Write + Drop, P: Progress>(
     alloc: Global,
     image: Image,
     table: Symbols,
@@ -94,6 +95,7 @@ fn debug_image<'a, I: Read + Drop, O: Write + Drop>(
     keys: Vec<u8>,
     input: I,
     output: O,
+    progress: &mut P,
 ) -> Result<O, ProgramFault<'a>>
     requires { IfSome schedule (λ schedule. 1 ≤ schedule.gap) }
     ensures ok { IfOk result (λ out. IfSome (I.remaining input) (λ typed. Appends (O.contents output) (O.contents out)
@@ -102,7 +104,7 @@ fn debug_image<'a, I: Read + Drop, O: Write + Drop>(
 {
     let machine: ProgramMachine = Machine::new(alloc, &image)?;
     let mut session = Session::with_past(alloc, machine, image, table, schedule, keys);
-    talk_with(&mut session, input, output)
+    talk_with(&mut session, input, output, progress)
 }
 
 /// Debugs the program of a file: commands from `input`, which may name the labels of the file `symbols` if one is named or else of the
@@ -132,5 +134,15 @@ pub fn debug_file<'a, F: Folder, I: Read + Drop, O: Write + Drop>(
     let LoadedProgram { image, table } = program;
     let schedule = schedule_asked(keys.is_some(), gap, tick);
     let typed = keys_of(alloc, folder, keys)?;
-    debug_image(alloc, image, table, schedule, typed, input, output)
+    let mut waiting = folder.waiting(false);
+    debug_image(
+        alloc,
+        image,
+        table,
+        schedule,
+        typed,
+        input,
+        output,
+        &mut waiting,
+    )
 }

@@ -7,4 +7,4 @@ mod debugging;
 pub use carrying::{Answer, FAULT, refuse, status_of, tell_fault};
 pub use commands::{Folder, ProgramFault, Writing};
 pub use image::Sink;
-pub use schedules::Progress;
+pub use schedules::{Progress, STRIDE};

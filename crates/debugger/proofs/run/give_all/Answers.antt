@@ -2,8 +2,9 @@ use Rattle.std.proofs.Common.{◌≤◌, ap, ap₂, sym, subst, ◌∙◌}
 use Rattle.std.specs.Prelude.{option_map}
 use Rattle.past.specs.Given.{count_of_one}
 use Rattle.debugger.specs.Keeping.{HasBegun, kept_last}
-use Rattle.debugger.specs.Reply.{after_events, given, given_on}
+use Rattle.debugger.specs.Reply.{after_events, given, given_at}
 use Rattle.debugger.specs.SessionState.{HasItsPast, TimelineState}
+use Rattle.debugger.specs.Marked.{seen}
 use Rattle.debugger.proofs.Begun.{all_same, given_few, has_begun, kept_begun, stays_there}
 use Rattle.debugger.proofs.run.give_all.Goals as goal
 
@@ -18,26 +19,28 @@ keep-requires-clause-few g c =
 
 pub invariant_of-timeline-2 : goal.invariant_of-timeline-2
 invariant_of-timeline-2 g c =
+    let marks = seen g.C.CapRep.value c.args.marks.now in
     let t = c.timeline.inside in
     let new = c.give-count.new in
     let ensured = c.give-count.ensures in
-    let es = given c.args.events t.replay t.owed c.args.stops.now t.machine in
+    let es = given c.args.events t.replay t.owed marks t.machine in
     let kept = c.keep.ensures
     ∙ ap₂ (λ g p. option_map (kept_last g) p) c.given_of.ensures c.in_ok-begin.ensures.past
     ∙ kept_begun t.past c.args.events es c.give-count.result ensured.count in
     let same = all_same t.past t.replay t.owed t.machine c.args.events es c.keep.new.past new.replay new.owed new.machine ensured.state
     ensured.replay ensured.owed kept in
-    subst HasItsPast (sym same) (stays_there t.past t.replay t.owed t.machine c.args.events c.args.stops.now c.timeline.invariant)
+    subst HasItsPast (sym same) (stays_there t.past t.replay t.owed t.machine c.args.events marks c.timeline.invariant)
 
 pub returns-clause-state : goal.returns-clause-state
 returns-clause-state g c =
+    let marks = seen g.C.CapRep.value c.args.marks.now in
     let t = c.timeline.inside in
     let new = c.give-count.new in
     let ensured = c.give-count.ensures in
-    let es = given c.args.events t.replay t.owed c.args.stops.now t.machine in
+    let es = given c.args.events t.replay t.owed marks t.machine in
     let kept = c.keep.ensures
     ∙ ap₂ (λ g p. option_map (kept_last g) p) c.given_of.ensures c.in_ok-begin.ensures.past
     ∙ kept_begun t.past c.args.events es c.give-count.result ensured.count in
     all_same t.past t.replay t.owed t.machine c.args.events es c.keep.new.past new.replay new.owed new.machine ensured.state
     ensured.replay ensured.owed kept
-    ∙ ap (λ (time : TimelineState). after_events c.args.events (given_on c.args.events c.args.stops.now time) time) c.timeline.view_is
+    ∙ ap (λ (time : TimelineState). after_events c.args.events (given_at c.args.events marks time) time) c.timeline.view_is

@@ -1,53 +1,39 @@
-use Rattle.std.proofs.Common.{arith}
-use Rattle.std.specs.Prelude.{None}
-use Rattle.debugger.specs.Stepping.{ends}
-use Rattle.debugger.proofs.RunSteps.{passes-none, passes-one, positive, state_towards, bytes_towards, count_towards}
+use Rattle.std.proofs.Common.{◌<◌, ◌≤◌, arith}
+use Rattle.steps.specs.State.{State}
+use Rattle.debugger.specs.Marked.{seen}
+use Rattle.debugger.specs.Stops.{ends, is_end}
+use Rattle.debugger.proofs.RunSteps.{GoesBetween, bytes_towards, count_towards, passes, positive, state_towards}
 use Rattle.debugger.proofs.stepping.run_towards.Goals as goal
 
-pub returns-in-empty-clause-state : goal.returns-in-empty-clause-state
-returns-in-empty-clause-state g c =
-    let there = ends c.args.stops.now c.args.unfetched in
-    let by = c.advance_short_of.ensures in
-    state_towards there None (passes-none there (omega (arith, c.in-empty.len_below))) c.args.room
-    (positive c.args.room c.if-room-eq0.false) c.args.most c.advance_short_of.result c.args.machine.now c.advance_short_of.new.self
-    by.few by.state by.silent by.goes
+pub returns-in-Some-clause-state : goal.returns-in-Some-clause-state
+returns-in-Some-clause-state g c =
+    let there = ends (seen g.C.CapRep.value c.args.marks.now) c.args.unfetched in
+    let w = c.in-Some.window in
+    let by = c.advance_between.ensures in
+    let few : c.advance_between.result ≤ c.args.most = grind (arith, c.min.ensures, by.few) in
+    let none = rw c.in-Some.is at c.window_at.ensures in
+    state_towards there w.low w.high (λ s goes. passes there s goes.0 (none g.C.CapRep.value s goes.1.0 goes.1.1 goes.0)) c.args.room
+    (positive c.args.room c.if-room-eq0.false) c.args.most c.advance_between.result c.args.machine.now c.advance_between.new.self
+    few by.state by.silent (λ j below. (by.goes j below, (by.low j below, by.high j below)))
 
-pub returns-in-empty-clause-bytes : goal.returns-in-empty-clause-bytes
-returns-in-empty-clause-bytes g c =
-    let there = ends c.args.stops.now c.args.unfetched in
-    let by = c.advance_short_of.ensures in
-    bytes_towards there None (passes-none there (omega (arith, c.in-empty.len_below))) c.args.room
-    (positive c.args.room c.if-room-eq0.false) c.args.most c.advance_short_of.result c.args.machine.now c.advance_short_of.new.self
-    by.few by.state by.silent by.goes
+pub returns-in-Some-clause-bytes : goal.returns-in-Some-clause-bytes
+returns-in-Some-clause-bytes g c =
+    let there = ends (seen g.C.CapRep.value c.args.marks.now) c.args.unfetched in
+    let w = c.in-Some.window in
+    let by = c.advance_between.ensures in
+    let few : c.advance_between.result ≤ c.args.most = grind (arith, c.min.ensures, by.few) in
+    let none = rw c.in-Some.is at c.window_at.ensures in
+    bytes_towards there w.low w.high (λ s goes. passes there s goes.0 (none g.C.CapRep.value s goes.1.0 goes.1.1 goes.0)) c.args.room
+    (positive c.args.room c.if-room-eq0.false) c.args.most c.advance_between.result c.args.machine.now c.advance_between.new.self
+    few by.state by.silent (λ j below. (by.goes j below, (by.low j below, by.high j below)))
 
-pub returns-in-empty-clause-count : goal.returns-in-empty-clause-count
-returns-in-empty-clause-count g c =
-    let there = ends c.args.stops.now c.args.unfetched in
-    let by = c.advance_short_of.ensures in
-    count_towards there None (passes-none there (omega (arith, c.in-empty.len_below))) c.args.room
-    (positive c.args.room c.if-room-eq0.false) c.args.most c.advance_short_of.result c.args.machine.now c.advance_short_of.new.self
-    by.few by.state by.silent by.goes
-
-pub returns-in-len1-clause-state : goal.returns-in-len1-clause-state
-returns-in-len1-clause-state g c =
-    let there = ends c.args.stops.now c.args.unfetched in
-    let by = c.advance_short_of-in-len1.ensures in
-    state_towards there c.address.result (passes-one _ there c.in-len1.len_at_least (omega (arith, c.in-len1.len_below)) c.address.result
-    c.address.ensures) c.args.room (positive c.args.room c.if-room-eq0.false) c.args.most c.advance_short_of-in-len1.result
-    c.args.machine.now c.advance_short_of-in-len1.new.self by.few by.state by.silent by.goes
-
-pub returns-in-len1-clause-bytes : goal.returns-in-len1-clause-bytes
-returns-in-len1-clause-bytes g c =
-    let there = ends c.args.stops.now c.args.unfetched in
-    let by = c.advance_short_of-in-len1.ensures in
-    bytes_towards there c.address.result (passes-one _ there c.in-len1.len_at_least (omega (arith, c.in-len1.len_below)) c.address.result
-    c.address.ensures) c.args.room (positive c.args.room c.if-room-eq0.false) c.args.most c.advance_short_of-in-len1.result
-    c.args.machine.now c.advance_short_of-in-len1.new.self by.few by.state by.silent by.goes
-
-pub returns-in-len1-clause-count : goal.returns-in-len1-clause-count
-returns-in-len1-clause-count g c =
-    let there = ends c.args.stops.now c.args.unfetched in
-    let by = c.advance_short_of-in-len1.ensures in
-    count_towards there c.address.result (passes-one _ there c.in-len1.len_at_least (omega (arith, c.in-len1.len_below)) c.address.result
-    c.address.ensures) c.args.room (positive c.args.room c.if-room-eq0.false) c.args.most c.advance_short_of-in-len1.result
-    c.args.machine.now c.advance_short_of-in-len1.new.self by.few by.state by.silent by.goes
+pub returns-in-Some-clause-count : goal.returns-in-Some-clause-count
+returns-in-Some-clause-count g c =
+    let there = ends (seen g.C.CapRep.value c.args.marks.now) c.args.unfetched in
+    let w = c.in-Some.window in
+    let by = c.advance_between.ensures in
+    let few : c.advance_between.result ≤ c.args.most = grind (arith, c.min.ensures, by.few) in
+    let none = rw c.in-Some.is at c.window_at.ensures in
+    count_towards there w.low w.high (λ s goes. passes there s goes.0 (none g.C.CapRep.value s goes.1.0 goes.1.1 goes.0)) c.args.room
+    (positive c.args.room c.if-room-eq0.false) c.args.most c.advance_between.result c.args.machine.now c.advance_between.new.self
+    few by.state by.silent (λ j below. (by.goes j below, (by.low j below, by.high j below)))

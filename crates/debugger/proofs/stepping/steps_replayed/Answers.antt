@@ -5,7 +5,9 @@ use Rattle.steps.specs.declared.event.Event.TheVariants.{Step}
 use Rattle.steps.specs.Event.{sent}
 use Rattle.machine.specs.Run.{run_after, run_sent}
 use Rattle.schedules.proofs.Events.{run_sent-brought}
-use Rattle.debugger.specs.Stepping.{ends, is_at_end, is_end, steps_while}
+use Rattle.debugger.specs.Stepping.{is_at_end, steps_while}
+use Rattle.debugger.specs.Marked.{seen}
+use Rattle.debugger.specs.Stops.{ends, is_end}
 use Rattle.past.specs.Replay.{byte_due, replayed}
 use Rattle.debugger.proofs.ReplaySteps.{at-end, none-left, room-left, runs-on, stops, state-goes-on, bytes-go-on, replay-goes-on}
 use Rattle.debugger.proofs.ReplaySteps.{count-goes-on}
@@ -20,8 +22,8 @@ is_end-requires g c =
 pub returns-then-is_end-clause-state : goal.returns-then-is_end-clause-state
 returns-then-is_end-clause-state g c =
     let l = c.loop-left in
-    let here = ends l.stops.now l.stops_unfetched in
-    let later = ends c.args.later.now c.args.unfetched in
+    let here = ends (seen g.C.CapRep.value l.marks.now) l.ends_unfetched in
+    let later = ends (seen g.C.CapRep.value c.args.later.now) c.args.unfetched in
     let b = c.bring-count in
     let more : is_at_end (Some l.replay) l.room l.machine ≡ false = sym c.is_at_end.ensures ∙ c.if-not-is_at_end.true in
     let there : is_end here b.new.machine ≡ true = sym c.is_end.ensures ∙ c.if-is_end.true in
@@ -34,8 +36,8 @@ returns-then-is_end-clause-state g c =
 pub returns-then-is_end-clause-bytes : goal.returns-then-is_end-clause-bytes
 returns-then-is_end-clause-bytes g c =
     let l = c.loop-left in
-    let here = ends l.stops.now l.stops_unfetched in
-    let later = ends c.args.later.now c.args.unfetched in
+    let here = ends (seen g.C.CapRep.value l.marks.now) l.ends_unfetched in
+    let later = ends (seen g.C.CapRep.value c.args.later.now) c.args.unfetched in
     let b = c.bring-count in
     let more : is_at_end (Some l.replay) l.room l.machine ≡ false = sym c.is_at_end.ensures ∙ c.if-not-is_at_end.true in
     let there : is_end here b.new.machine ≡ true = sym c.is_end.ensures ∙ c.if-is_end.true in
@@ -51,8 +53,8 @@ returns-then-is_end-clause-bytes g c =
 pub returns-then-is_end-clause-replay : goal.returns-then-is_end-clause-replay
 returns-then-is_end-clause-replay g c =
     let l = c.loop-left in
-    let here = ends l.stops.now l.stops_unfetched in
-    let later = ends c.args.later.now c.args.unfetched in
+    let here = ends (seen g.C.CapRep.value l.marks.now) l.ends_unfetched in
+    let later = ends (seen g.C.CapRep.value c.args.later.now) c.args.unfetched in
     let b = c.bring-count in
     let more : is_at_end (Some l.replay) l.room l.machine ≡ false = sym c.is_at_end.ensures ∙ c.if-not-is_at_end.true in
     let there : is_end here b.new.machine ≡ true = sym c.is_end.ensures ∙ c.if-is_end.true in
@@ -65,8 +67,8 @@ returns-then-is_end-clause-replay g c =
 pub returns-then-is_end-clause-count : goal.returns-then-is_end-clause-count
 returns-then-is_end-clause-count g c =
     let l = c.loop-left in
-    let here = ends l.stops.now l.stops_unfetched in
-    let later = ends c.args.later.now c.args.unfetched in
+    let here = ends (seen g.C.CapRep.value l.marks.now) l.ends_unfetched in
+    let later = ends (seen g.C.CapRep.value c.args.later.now) c.args.unfetched in
     let b = c.bring-count in
     let more : is_at_end (Some l.replay) l.room l.machine ≡ false = sym c.is_at_end.ensures ∙ c.if-not-is_at_end.true in
     let there : is_end here b.new.machine ≡ true = sym c.is_end.ensures ∙ c.if-is_end.true in
@@ -92,11 +94,11 @@ overflow_sub-room g c =
 pub loop-left-preserved : goal.loop-left-preserved
 loop-left-preserved g c =
     let l = c.loop-left in
-    let here = ends l.stops.now l.stops_unfetched in
+    let here = ends (seen g.C.CapRep.value l.marks.now) l.ends_unfetched in
     let b = c.bring-count in
     let met = c.give_step-met in
-    let first = ends l.stops.now l.stops_unfetched in
-    let later = ends c.args.later.now c.args.unfetched in
+    let first = ends (seen g.C.CapRep.value l.marks.now) l.ends_unfetched in
+    let later = ends (seen g.C.CapRep.value c.args.later.now) c.args.unfetched in
     let some = c.loop-left-test.true in
     let more : is_at_end (Some l.replay) l.room l.machine ≡ false = sym c.is_at_end.ensures ∙ c.if-not-is_at_end.true in
     let there : is_end here b.new.machine ≡ false = sym c.is_end.ensures ∙ c.if-is_end.false in
@@ -128,63 +130,63 @@ loop-left-preserved g c =
 pub returns-else-not-is_at_end-clause-state : goal.returns-else-not-is_at_end-clause-state
 returns-else-not-is_at_end-clause-state g c =
     let l = c.loop-left in
-    let here = ends l.stops.now l.stops_unfetched in
-    let later = ends c.args.later.now c.args.unfetched in
+    let here = ends (seen g.C.CapRep.value l.marks.now) l.ends_unfetched in
+    let later = ends (seen g.C.CapRep.value c.args.later.now) c.args.unfetched in
     let e = at-end here later l.left l.room l.replay l.machine (sym c.is_at_end.ensures ∙ c.if-not-is_at_end.false) in
     rw e at l.invariant.state
 
 pub returns-else-not-is_at_end-clause-bytes : goal.returns-else-not-is_at_end-clause-bytes
 returns-else-not-is_at_end-clause-bytes g c =
     let l = c.loop-left in
-    let here = ends l.stops.now l.stops_unfetched in
-    let later = ends c.args.later.now c.args.unfetched in
+    let here = ends (seen g.C.CapRep.value l.marks.now) l.ends_unfetched in
+    let later = ends (seen g.C.CapRep.value c.args.later.now) c.args.unfetched in
     let e = at-end here later l.left l.room l.replay l.machine (sym c.is_at_end.ensures ∙ c.if-not-is_at_end.false) in
     grind (arith, common_steps, rw e at l.invariant.bytes)
 
 pub returns-else-not-is_at_end-clause-replay : goal.returns-else-not-is_at_end-clause-replay
 returns-else-not-is_at_end-clause-replay g c =
     let l = c.loop-left in
-    let here = ends l.stops.now l.stops_unfetched in
-    let later = ends c.args.later.now c.args.unfetched in
+    let here = ends (seen g.C.CapRep.value l.marks.now) l.ends_unfetched in
+    let later = ends (seen g.C.CapRep.value c.args.later.now) c.args.unfetched in
     let e = at-end here later l.left l.room l.replay l.machine (sym c.is_at_end.ensures ∙ c.if-not-is_at_end.false) in
     rw e at l.invariant.replay
 
 pub returns-else-not-is_at_end-clause-count : goal.returns-else-not-is_at_end-clause-count
 returns-else-not-is_at_end-clause-count g c =
     let l = c.loop-left in
-    let here = ends l.stops.now l.stops_unfetched in
-    let later = ends c.args.later.now c.args.unfetched in
+    let here = ends (seen g.C.CapRep.value l.marks.now) l.ends_unfetched in
+    let later = ends (seen g.C.CapRep.value c.args.later.now) c.args.unfetched in
     let e = at-end here later l.left l.room l.replay l.machine (sym c.is_at_end.ensures ∙ c.if-not-is_at_end.false) in
     omega (arith, rw e at l.invariant.counted)
 
 pub returns-after-loop-left-clause-state : goal.returns-after-loop-left-clause-state
 returns-after-loop-left-clause-state g c =
     let l = c.loop-left in
-    let here = ends l.stops.now l.stops_unfetched in
-    let later = ends c.args.later.now c.args.unfetched in
+    let here = ends (seen g.C.CapRep.value l.marks.now) l.ends_unfetched in
+    let later = ends (seen g.C.CapRep.value c.args.later.now) c.args.unfetched in
     let e = none-left here later l.left l.room l.replay l.machine (omega (arith, c.loop-left-test.false)) in
     rw e at l.invariant.state
 
 pub returns-after-loop-left-clause-bytes : goal.returns-after-loop-left-clause-bytes
 returns-after-loop-left-clause-bytes g c =
     let l = c.loop-left in
-    let here = ends l.stops.now l.stops_unfetched in
-    let later = ends c.args.later.now c.args.unfetched in
+    let here = ends (seen g.C.CapRep.value l.marks.now) l.ends_unfetched in
+    let later = ends (seen g.C.CapRep.value c.args.later.now) c.args.unfetched in
     let e = none-left here later l.left l.room l.replay l.machine (omega (arith, c.loop-left-test.false)) in
     grind (arith, common_steps, rw e at l.invariant.bytes)
 
 pub returns-after-loop-left-clause-replay : goal.returns-after-loop-left-clause-replay
 returns-after-loop-left-clause-replay g c =
     let l = c.loop-left in
-    let here = ends l.stops.now l.stops_unfetched in
-    let later = ends c.args.later.now c.args.unfetched in
+    let here = ends (seen g.C.CapRep.value l.marks.now) l.ends_unfetched in
+    let later = ends (seen g.C.CapRep.value c.args.later.now) c.args.unfetched in
     let e = none-left here later l.left l.room l.replay l.machine (omega (arith, c.loop-left-test.false)) in
     rw e at l.invariant.replay
 
 pub returns-after-loop-left-clause-count : goal.returns-after-loop-left-clause-count
 returns-after-loop-left-clause-count g c =
     let l = c.loop-left in
-    let here = ends l.stops.now l.stops_unfetched in
-    let later = ends c.args.later.now c.args.unfetched in
+    let here = ends (seen g.C.CapRep.value l.marks.now) l.ends_unfetched in
+    let later = ends (seen g.C.CapRep.value c.args.later.now) c.args.unfetched in
     let e = none-left here later l.left l.room l.replay l.machine (omega (arith, c.loop-left-test.false)) in
     omega (arith, rw e at l.invariant.counted)

@@ -5,7 +5,7 @@ use Rattle.origin_texts.proofs.Fuel.{before_them, one_more_loss, there_too}
 use Rattle.origin_texts.proofs.origin.append_losses.Goals as goal
 
 pub loop-next-preserved : goal.loop-next-preserved
-loop-next-preserved c =
+loop-next-preserved g c =
     let l = c.loop-next in
     let symbols = c.args.symbols.now in
     let past = c.args.past.now in

@@ -8,11 +8,11 @@ use Rattle.origin_texts.proofs.origin.append_losses.Given as goal
 
 -- what is told from here on is what all of it tells
 abbrev pub invariant-loop-next : goal.invariant-loop-next
-invariant-loop-next l = record {
+invariant-loop-next g l = record {
   text : string_bytes l.text ++ tell_on (all_of_losses l.symbols l.past (option_copied l.replay)) l.next
       ≡ string_bytes l.fn.text ++ all_losses l.symbols l.past (option_copied l.replay) l.fn.place;
   there : IfSome l.next (λ p. IsThere p.0 (opening l.past.image));
 }
 
 abbrev pub decreases-loop-next : goal.decreases-loop-next
-decreases-loop-next l = left l.next
+decreases-loop-next g l = left l.next

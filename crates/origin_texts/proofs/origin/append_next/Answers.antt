@@ -9,7 +9,7 @@ use Rattle.origin_texts.proofs.Facts.{early, source_before, there_now}
 use Rattle.origin_texts.proofs.origin.append_next.Goals as goal
 
 pub append_link-requires : goal.append_link-requires
-append_link-requires c =
+append_link-requires g c =
     let past = c.args.past.now in
     let machine = c.in_ok-machine.machine in
     let found = c.in-Some.found in
@@ -25,7 +25,7 @@ append_link-requires c =
     )
 
 pub returns-clause-there : goal.returns-clause-there
-returns-clause-there c =
+returns-clause-there g c =
     let past = c.args.past.now in
     let is = sym c.in_ok-found.ensures.found ∙ c.in-Some.is in
     subst (λ o. IfSome o (λ p. IsThere p.0 (opening past.image) × (p.1 < c.args.events)))

@@ -9,7 +9,7 @@ use Rattle.origin_texts.proofs.Facts.{early, there_now, untagged_before}
 use Rattle.origin_texts.proofs.origin.append_next_loss.Goals as goal
 
 pub untagged_source-from-requires : goal.untagged_source-from-requires
-untagged_source-from-requires c =
+untagged_source-from-requires g c =
     let past = c.args.past.now in
     let machine = c.in_ok-machine.machine in
     let is = sym c.in_ok-found.ensures.found ∙ c.in-Some.is in
@@ -19,7 +19,7 @@ untagged_source-from-requires c =
     (search rules, subst (λ o. IfSome o (λ from. IsThere from machine)) (sym c.source.ensures) there.0)
 
 pub append_loss-requires : goal.append_loss-requires
-append_loss-requires c =
+append_loss-requires g c =
     let past = c.args.past.now in
     let machine = c.in_ok-machine.machine in
     let found = c.in-Some.found in
@@ -35,7 +35,7 @@ append_loss-requires c =
     )
 
 pub returns-clause-there : goal.returns-clause-there
-returns-clause-there c =
+returns-clause-there g c =
     let past = c.args.past.now in
     let machine = c.in_ok-machine.machine in
     let is = sym c.in_ok-found.ensures.found ∙ c.in-Some.is in

@@ -1,5 +1,0 @@
-use Rattle.std.proofs.Common.{length}
-use Rattle.debugger.proofs.stepping.+is_any_stop.Given as goal
-
-abbrev pub decreases-is_any_stop : goal.decreases-is_any_stop
-decreases-is_any_stop g l = length l.stops.now
