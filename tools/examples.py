@@ -17,9 +17,10 @@ import subprocess
 import sys
 import tempfile
 
+from toolchain import program_given
+
 TOP = os.path.join(os.path.dirname(os.path.abspath(__file__)), "..")
 EXAMPLES = os.path.join(TOP, "examples")
-PROGRAM = os.path.join(TOP, "crates", "cherisim", "out", "cherisim")
 
 # The steps between two bytes and between two ticks, of examples whose texts ask for others than the program's own.
 OPTIONS = {"echo": ["--gap", "20"], "timer": ["--tick", "10"], "compartments": ["--tick", "0"]}
@@ -127,10 +128,7 @@ def tried(program, name, room):
 
 
 def main():
-    program = os.path.abspath(sys.argv[1] if len(sys.argv) > 1 else PROGRAM)
-    if not os.path.exists(program):
-        print(f"no program {os.path.relpath(program, TOP)}: the gate leaves it there")
-        return 1
+    program = program_given(sys.argv[1:])
     names = sorted(os.path.basename(path).removesuffix(".s") for path in glob.glob(os.path.join(EXAMPLES, "*.s")))
     with tempfile.TemporaryDirectory(prefix="examples-") as room:
         all_tried = all([tried(program, name, room) for name in names])

@@ -17,10 +17,10 @@ import sys
 import tempfile
 import termios
 
-TOP = os.path.dirname(os.path.dirname(os.path.abspath(__file__)))
-PROGRAM = os.path.join(TOP, "crates", "cherisim", "out", "cherisim")
-PAGE = os.path.join(TOP, "docs", "DEBUGGER.md")
-EXAMPLES = os.path.join(TOP, "examples")
+from toolchain import ROOT, program_given
+
+PAGE = os.path.join(ROOT, "docs", "DEBUGGER.md")
+EXAMPLES = os.path.join(ROOT, "examples")
 # The session that the page shows, and its image.
 SHOWN = re.compile(r"^## At the keyboard\n.*?^```\n\$ cherisim debug (.*?)\n(.*?)^```$", re.MULTILINE | re.DOTALL)
 
@@ -209,10 +209,7 @@ def tried(program):
 
 
 def main():
-    program = os.path.abspath(sys.argv[1] if len(sys.argv) > 1 else PROGRAM)
-    if not os.path.exists(program):
-        print(f"no program {os.path.relpath(program, TOP)}: the gate leaves it there")
-        return 1
+    program = program_given(sys.argv[1:])
     with tempfile.TemporaryDirectory(prefix="keyboard-") as room:
         os.chdir(room)
         try:

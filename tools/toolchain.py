@@ -4,6 +4,16 @@ import shutil
 import sys
 
 ROOT = os.path.dirname(os.path.dirname(os.path.abspath(__file__)))
+# The proved program, as the gate leaves it.
+PROGRAM = os.path.join(ROOT, "crates", "cherisim", "out", "cherisim")
+
+
+def program_given(words):
+    """The program that the first of a script's words names, or else the proved one. The script ends where it isn't there."""
+    program = os.path.abspath(words[0] if words else PROGRAM)
+    if not os.path.exists(program):
+        sys.exit(f"no program {os.path.relpath(program, ROOT)}: the gate leaves it there")
+    return program
 
 
 def kit():

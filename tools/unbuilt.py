@@ -16,7 +16,8 @@ import subprocess
 import sys
 import tempfile
 
-from pages.tried import PROGRAM, commands, furnished
+from pages.tried import commands, furnished
+from toolchain import program_given
 
 TOP = os.path.join(os.path.dirname(os.path.abspath(__file__)), "..")
 
@@ -119,10 +120,7 @@ def is_same(command, wanted, came, parts=("status", "standard output", "files"))
 
 
 def main():
-    program = os.path.abspath(sys.argv[1] if len(sys.argv) > 1 else PROGRAM)
-    if not os.path.exists(program):
-        print(f"no program {os.path.relpath(program, TOP)}: the gate leaves it there")
-        return 1
+    program = program_given(sys.argv[1:])
     with tempfile.TemporaryDirectory(prefix="unbuilt-") as room:
         built, unbuilt, path = os.path.join(room, "built"), os.path.join(room, "unbuilt"), os.environ["PATH"]
         os.mkdir(built)
