@@ -33,7 +33,7 @@ from ._symbols import Symbols, labels_of
 from ._views import Memory, Registers, SpecialRegisters, StatusRegisters, _value
 
 __version__ = "0.1.0"
-__all__ = ["Answer", "Breach", "CSRS", "Cap", "CherisimError", "Closed", "Console", "Door", "ImageFault", "Insn", "Link", "Machine",
+__all__ = ["Answer", "Breach", "CSRS", "Call", "Cap", "CherisimError", "Closed", "Console", "Door", "ImageFault", "Insn", "Link", "Machine",
            "Memory", "NULL_UPPER", "OutOfMemory", "OutOfRange", "PAGE", "Perms", "Policy", "PolicyFault", "Proof", "RAM", "REGISTERS",
            "Ran", "Reach", "ReachMember", "Registers", "Replay", "SCRS", "SENTRY", "Schedule", "SpecialRegisters", "StatusRegisters",
            "Stop", "Symbols", "SymbolsFault", "TextFault", "Timer", "UNSEALED", "Watched", "WrongThread", "decode", "disassemble", "encode",
@@ -502,5 +502,6 @@ class Machine(Questions):
         return f"<Machine {state}>"
 
 
-from ._origins import Link  # which are made of this module
+from ._backtrace import Call  # which are made of this module
+from ._origins import Link
 from ._replay import Replay, Schedule

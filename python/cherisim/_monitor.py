@@ -6,6 +6,7 @@ from typing import Callable, Dict, Iterable, Iterator, List, Optional, Tuple
 
 from . import (CSRS, PAGE, RAM, REGISTERS, SCRS, SENTRY, UNSEALED, Cap, CherisimError, Door, Machine, OutOfRange, Perms, Reach, ReachMember,
                disassemble)
+from ._backtrace import PASSAGES
 from ._html import letters
 from ._library import RESERVED
 from ._objects import capability
@@ -39,6 +40,7 @@ dis [ADDR [N]]          words of RAM, or from PCC's address on, as instructions:
 reach, reach members    what the code that runs can come to hold, in sum and each; reach doors: through doors, too; reach dot: a graph; reach json: objects
 origin R|ADDR           what a place's value was made of
 lost R|ADDR             where its tag went
+calls                   who called whom and has not returned
 may store ADDR LEN      whether it may store there; load, execute, learn and keep likewise
 may send                whether it may send a byte; halt, system and timer likewise
 may hold TYPE           whether a member is sealed with an object type, or may seal with it
@@ -89,7 +91,7 @@ class Monitor:
         self._answers: Dict[str, Callable[..., str]] = {
             "reg": self._reg, "mem": self._mem, "dis": self._dis, "reach": self._reach, "may": self._may, "why": self._why,
             "origin": lambda word: Told(replay, self._symbols).origin(self._past(word)),
-            "lost": lambda word: Told(replay, self._symbols).lost(self._past(word)), "help": self._help}
+            "lost": lambda word: Told(replay, self._symbols).lost(self._past(word)), "calls": self._calls, "help": self._help}
 
     @property
     def _machine(self) -> Machine:
@@ -116,6 +118,12 @@ class Monitor:
     def _help(self, word: str = "") -> str:
         found = [line for line in HELP.splitlines(keepends=True) if not word or word in re.findall(r"\w+", line[:24])]
         return "".join(found) or "fault B2\n"
+
+    def _calls(self) -> str:
+        """The calls that have not returned, a line each."""
+        shown = self._symbols.shown
+        return "".join(f"{self._replay.number(it.step)} {shown(it.source)} {PASSAGES[it.passage]} {shown(it.target)}, to return to "
+                       f"{shown(it.back)}\n" for it in self._replay.calls()) or "no call is open\n"
 
     def _address(self, word: str) -> int:
         """An address: a number, a label, or so far from a label."""

@@ -7,6 +7,7 @@ from __future__ import annotations
 from bisect import bisect_left
 from ctypes import byref, c_uint32, create_string_buffer
 from functools import lru_cache
+from itertools import groupby
 from typing import TYPE_CHECKING, Callable, Dict, Iterator, List, NamedTuple, Optional, Tuple, TypeVar, Union
 
 from . import RAM, REGISTERS, SCRS, SENTRY, Cap, Insn, Machine, Perms, Stop, Symbols, decode, disassemble
@@ -89,14 +90,30 @@ class _Next:
     def __init__(self, machine: Machine) -> None:
         self._do, self._ends, self._cap, self._word = machine._do, c_uint32(), c.Cap(), create_string_buffer(4)
 
-    def makings(self) -> Dict[Place, Making]:
-        """How it makes what it writes, by places."""
+    def _ends_as(self, stop: Stop) -> bool:
+        """Whether it ends a stretch so."""
         self._do(lib.cherisim_next_ends, byref(self._ends))
-        if self._ends.value == Stop.TRAP:
-            return _OF_TRAPS
+        return self._ends.value == stop
+
+    def is_sealed_jump(self) -> bool:
+        """Whether it goes through a sentry or a pair."""
+        return self._ends_as(Stop.SEALED_JUMP)
+
+    def _fetched(self) -> Tuple[int, bool]:
+        """The word at PCC, and the mode."""
         self._do(lib.cherisim_scr, SCRS["pcc"], byref(self._cap))
         self._do(lib.cherisim_read, self._cap.address, self._word, len(self._word))
-        word, mode = int.from_bytes(self._word, "little"), _mode(self._cap.upper)
+        return int.from_bytes(self._word, "little"), _mode(self._cap.upper)
+
+    def row(self) -> Optional[Tuple[str, bool, Insn]]:
+        """Its instruction, as `_row` has it, or None where it traps."""
+        return None if self._ends_as(Stop.TRAP) else _row(*self._fetched())
+
+    def makings(self) -> Dict[Place, Making]:
+        """How it makes what it writes, by places."""
+        if self._ends_as(Stop.TRAP):
+            return _OF_TRAPS
+        word, mode = self._fetched()
         name, through, insn = _row(word, mode)
         if name not in _ACCESSES:
             return _of_row(word, mode)
@@ -244,6 +261,16 @@ def notes(source: Cap, value: Cap) -> str:
     return "".join(f", {text}" for text, holds in told if holds)
 
 
+_Line = Tuple[str, str, str]  # what is told of a link without its step's number and what it wrote, in two parts; and its line
+
+
+def _counted(told: List[_Line]) -> Iterator[str]:
+    """Lines of links: of more than three one after the other that are told alike the newest, those between by their count, the oldest."""
+    for (head, step), some in groupby(told, lambda it: it[:2]):
+        lines = [line for _, _, line in some]
+        yield from lines if len(lines) < 4 else (lines[0], f"{head}, {len(lines) - 2} times: {step}\n", lines[-1])
+
+
 class Told:
     """The lines of a trail, with labels and lines of sources where a table has them."""
 
@@ -256,7 +283,8 @@ class Told:
 
     def origin(self, place: Place) -> str:
         """What a place's value was made of."""
-        told, onward = trail(self._run, place, False, self._line)
+        found, onward = trail(self._run, place, False, self._parts)
+        told = [*_counted(found)]
         if onward is not None:
             kind = "image" if isinstance(onward, int) else "opening state"
             told.append(f"{kind}: {self.name(onward)} {held(self._run.fork(self._run.begin).machine, onward)}\n")
@@ -267,12 +295,17 @@ class Told:
         told, _ = trail(self._run, place, True, lambda it: self._line(it) + self._conditions(it))
         return "".join(told) or f"no tag was lost at {self.name(place)}\n"
 
-    def _line(self, it: Written) -> str:
+    def _parts(self, it: Written) -> _Line:
         """A step that wrote a place."""
         text = "no capability"
         if it.making.source is not None:
             text = self.name(it.making.source) + notes(held(it.before, it.making.source), held(it.after, it.place))
-        return f"{self.name(it.place)} from {text}: {it.before._trace_line(self._run.number(it.step), self._symbols)}\n"
+        head, line = f"{self.name(it.place)} from {text}", it.before._trace_line(self._run.number(it.step), self._symbols)
+        return head, line.split(" ", 1)[1].partition(": ")[0], f"{head}: {line}\n"
+
+    def _line(self, it: Written) -> str:
+        """The same as a line."""
+        return self._parts(it)[2]
 
     def _conditions(self, it: Written) -> str:
         """The conditions of the tag up to the first that is false."""

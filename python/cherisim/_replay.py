@@ -8,6 +8,7 @@ from typing import Dict, List, NamedTuple, Optional, Sequence, Tuple, Union
 from . import Machine, OutOfRange, Stop
 from . import _library as c
 from ._library import lib
+from ._backtrace import Call, open_calls
 from ._origins import Link, links
 
 _EVERY = 5_000_000  # steps between two states that are kept
@@ -150,6 +151,10 @@ class Replay:
     def lost(self, where: Union[str, int]) -> List[Link]:
         """The steps at which the tag there went, and then that of its source, as the debugger's `lost` shows them."""
         return links(self, where, lost=True)
+
+    def calls(self) -> List[Call]:
+        """Who called whom and has not returned, as the debugger's `calls` shows it, the newest first."""
+        return open_calls(self)
 
     def forget(self) -> None:
         """What was before can't be gone back to: after a write, which is no event."""

@@ -117,6 +117,15 @@ class Values(unittest.TestCase):
         for where in (RAM + 8, RAM - 16, RAM + PAGE, "nowhere", 1 << 64):
             self.assertRaises(OutOfRange, replay.origin, where)
 
+    def test_calls(self):
+        replay = Replay(Machine(text=read("examples", "compartments.s")))
+        replay.run(200)
+        self.assertEqual([(it.step, it.passage, it.target - RAM) for it in replay.calls()],
+                         [(200, "jump", 0x1020), (196, "trap", 0x1000), (192, "pair", 0x3004)])
+        self.assertEqual([it.back - it.source for it in replay.calls()], [4, 0, 4])
+        replay.go_to(190)
+        self.assertEqual(replay.calls(), [])
+
     def test_far(self):
         """A chain over far more steps than are looked at at once."""
         replay = Replay(Machine(text="li a1, 9\nmore: cincoffsetimm ca0, ca0, 1\nli a2, 1000\nwait: addi a2, a2, -1\nbne a2, zero, wait\n"

@@ -115,7 +115,49 @@ def chains():
     yield session("Registers by each kind of name, register 0, and what no event wrote", DERIVED, after(
         DERIVED, each("origin {}", "a1 ca1 x11 c11 fp cfp s0 zero c0 cnull ra t6 pcc mtdc") + "; "
         + each("lost {}", "a1 zero fp pcc mtdc mepcc")))
-    yield session("A loop moves a capability on: a line for each time", MOVES, "step 122; origin ca0; back 62; origin ca0; origin a1")
+    yield session("A loop moves a capability on: its first and last time have a line, and those between are counted", MOVES,
+                  "step 122; origin ca0; back 62; origin ca0; origin a1")
+
+
+# ---- stretches of links that are told alike
+
+# A pointer that moves on, four events a round after the first event; one that begins as it was; one that comes from a number.
+ROUND_AND_ROUND = "cspecialrw ca0, ddc, cnull; loop: cincoffsetimm ca0, ca0, 16; addi a1, a1, 1; nop; j loop"
+FROM_OPENING = "loop: cincoffsetimm ca0, ca0, 16; j loop"
+FROM_NUMBER = "addi a0, zero, 5; loop: cincoffsetimm ca0, ca0, 16; j loop"
+# Two links that take turns, in registers and through a granule.
+TURNS = "cspecialrw ca0, ddc, cnull; loop: cmove ca1, ca0; cmove ca0, ca1; j loop"
+THROUGH = ("cspecialrw ca0, ddc, cnull; auipc a1, 0x0; addi a1, a1, 1020; loop: sc ca0, 0(a1); lc ca0, 0(a1); j loop")
+# Five times, another instruction or another source, and five times again.
+WRITER = ("cspecialrw ca0, ddc, cnull; addi a1, zero, 5; loop: cincoffsetimm ca0, ca0, 16; addi a1, a1, -1; bne a1, zero, loop; {}; "
+          "addi a1, zero, 5; j loop")
+# Eight rounds of which one cuts.
+CUTS = "cspecialrw ca0, ddc, cnull; addi a1, zero, {}; lui a2, {}; csetaddr ca0, ca0, a2; loop: {}; j loop"
+
+
+def stretches():
+    for count in range(1, 8):
+        yield session(f"{count} alike", ROUND_AND_ROUND, f"step {4 * count - 2}; origin ca0; step 2; origin ca0")
+        yield session(f"{count} alike, down to the opening state", FROM_OPENING, f"step {2 * count - 1}; origin ca0; lost ca0")
+        yield session(f"{count} alike, down to a number", FROM_NUMBER, f"step {2 * count}; origin ca0")
+    for count in (2, 3, 4, 5, 12, 13):
+        yield session(f"Two links take turns: after {count} events", TURNS, f"step {count}; origin ca0; origin ca1")
+        yield session(f"Two links take turns through a granule: after {count} events", THROUGH,
+                      f"step {count + 3}; origin ca0; origin {BYTES - 4:#x}")
+    for about, other in (("another instruction", "csetaddr ca0, ca0, zero"), ("another source", "cincoffsetimm ca0, ca2, 16"),
+                         ("the same instruction elsewhere", "cincoffsetimm ca0, ca0, 16"), ("a number", "addi a0, zero, 1")):
+        text = WRITER.format(other)
+        yield session(f"Stretches with {about} between", text, "step 17; origin ca0; step 1; origin ca0; step 9; origin ca0; step 9; "
+                      "origin ca0; step 40; origin ca0; lost ca0")
+    for about, number, high, row in (("bounds are cut once", 64, "0x10", "csetboundsimm ca0, ca0, 64"),
+                                     ("a tag is cut once", 3, "0x10", "cincoffset ca0, ca0, ca0"),
+                                     ("permissions are cut once", 23, "0x10", "candperm ca0, ca0, a1")):
+        yield session(f"A loop in which {about}", CUTS.format(number, high, row), "step 9; origin ca0; step 8; origin ca0; step 90; "
+                      "origin ca0; lost ca0")
+    yield session("The same instruction at six places is no stretch", "cspecialrw ca0, ddc, cnull; "
+                  + "; ".join(6 * ["cincoffsetimm ca0, ca0, 16"]), "step 7; origin ca0")
+    yield session("Ticks and bytes between alike links count as events", ROUND_AND_ROUND, "step 5; tick 3; step 4; byte 7; step 4; tick 1; "
+                  "step 9; origin ca0; back 9; origin ca0")
 
 
 # ---- memory
@@ -372,6 +414,11 @@ def changes():
                       ("0x80000413", 1), ("0x80000414", 1), ("0x80000415", 1), ("0x8000041f", 1), ("0x8000041e", 1), ("0x80000420", 1),
                       ("0x80000421", 1), ("0x80000410", 4), ("0x8000040c", 9), ("0x80000400", 4096 - 1024), ("0x80000000", 4096),
                       ("0x80000ff0", 16), ("0x80000fff", 1), ("0x80000000", 1))))
+    yield session("Sixteen bytes from what is no granule's address", WRITES,
+                  "; ".join(f"stop off; stop changed {place}; stop changed {place} 16; go 60; ago; go 60; ago; back to stop; ago" for place in (
+                      "0x80000404", "0x80000405", "0x8000040f", "0x80000411", "0x80000420", "0x80000421", "2147484673"))
+                  + "; stops; stop changed 0x80000ff0; stop changed 0x80000ff1; stop changed 0x7fffffff; stop changed 0x7ffffff1; stop changed 1; "
+                  "stop changed 0xfffffffffffffff1; stop changed 0xffffffffffffffff; stops")
     yield session("Code that a program stores over", "auipc a1, 0x0; addi a0, zero, 19; sw a0, 12(a1); ebreak; nop",
                   f"stop changed 0x8000000c 4; go 60; dis; go 1; {TO_STOP}; dis 0x8000000c 1")
     yield session("More stops: an address, a trap and changes, the first of them wherever it is", CALLS,
@@ -394,20 +441,66 @@ def changes():
                   f"stop changed a0; step 1; byte 0x41; tick 3; {ON}; {TO_STOP}; {ON}")
     yield session("Before a trap whose entry can't be fetched, and at a change that comes with it", "addi a0, a0, 1; ecall; nop",
                   f"stop changed a0; go 60; go 60; go 60; stop changed mepcc; go 60; ago; {times(2)}")
-    yield session("Labels", LOOP, "stop changed data; stop changed data 3; stop changed data+1 3; stop changed data-16; stop changed ca0; "
+    yield session("Labels", LOOP, "stop changed data; stop changed data 3; stop changed data+1 3; stop changed data+1; stop changed data-16; stop changed ca0; "
                   "stops; go 9", None, {"data": BYTES, "loop": RAM + 4})
     yield session("Bytes outside RAM", FIRST, "step 2; " + each("stop changed {0}", OUTSIDE) + "; stops; "
                   + "; ".join(f"stop changed {it}" for it in BEYOND) + "; stops; step 1")
 
 
+# ---- calls
+
+# f calls itself three times and returns; then it is called once more.
+RECURSES = ("addi a0, zero, 3; jal ra, f; jal ra, f; nop; f: beq a0, zero, out; addi a0, a0, -1; addi t0, ra, 0; jal ra, f; "
+            "back: addi ra, t0, 0; out: jalr zero, 0(ra)")
+# g leaves h and itself at once, to where its caller is to go on.
+LEAVES = "jal ra, f; nop; f: jal t1, g; nop; g: jal t2, h; nop; h: jalr zero, 0(ra); nop"
+# Links in one register and in another, a tail call, and a jump into the middle.
+TAILS = "jal t0, f; nop; f: auipc t1, 0x0; jalr ra, 16(t1); jal zero, .+0; nop; h: jalr zero, 8(t1); nop"
+# The next instruction is where it is to return to.
+NEXT = "jal ra, .+4; auipc t0, 0x0; jalr t1, 8(t0); jal ra, f; nop; f: nop"
+# An address that was computed is that where an open call is to return to.
+COMPUTED = "jal ra, f; nop; f: jal t1, g; nop; g: auipc t2, 0x0; jalr zero, -12(t2); nop"
+# A handler that calls; it traps itself in what it called, once.
+NESTED = ("auipc a0, 0x0; addi a0, a0, 24; csrrw zero, mtvec, a0; ecall; nop; nop; jal t0, f; csrrs a2, mepc, zero; addi a2, a2, 4; "
+          "csrrw zero, mepc, a2; mret; f: bne a3, zero, out; addi a3, zero, 1; ecall; out: jalr zero, 0(t0)")
+# A pair whose code goes back by another pair, to the instruction after the first one.
+PAIRS = ("cspecialrw ca0, ddc, cnull; addi a1, zero, 7; csetaddr ca1, ca0, a1; addi a3, zero, 0x13d; candperm ca3, ca0, a3; "
+         "cseal ca3, ca3, ca1; cspecialrw ca2, pcc, cnull; cincoffsetimm ca4, ca2, 36; cincoffsetimm ca5, ca2, 24; cseal ca4, ca4, ca1; "
+         "cseal ca5, ca5, ca1; cinvoke ca4, ca3; nop; jal zero, .+0; nop; cinvoke ca5, ca3; nop")
+ENTRY_MISSING = "addi a0, zero, 1; ecall; nop"
+
+
+def every_step(steps):
+    """`calls` after each of so many steps, and then some back."""
+    return "calls; " + "; ".join(steps * ["step 1; calls"]) + "; back 2; calls"
+
+
+def calls():
+    for about, text, steps in (
+            ("A function that calls itself", RECURSES, 30), ("A return that leaves more than one call", LEAVES, 6),
+            ("Links in several registers; a tail call; a jump that calls nothing", TAILS, 6), ("Where it is to return to is the next step", NEXT, 5),
+            ("A jump to a computed address returns as one to a link does", COMPUTED, 6), ("A handler that calls and traps", NESTED, 26),
+            ("A trap whose entry can't be fetched is told once", ENTRY_MISSING, 6), ("A trap that is taken, and MRET", CALLS, 17),
+            ("MRET without a trap", "auipc a0, 0x0; addi a0, a0, 12; csrrw zero, mepc, a0; mret; jal ra, .+8; nop; mret; nop", 7),
+            ("An interrupt", INTERRUPTED.format(0x3E1), 22), ("Through a pair, and back by a pair", PAIRS, 18),
+            ("Through a pair", PAIR.format(0, "ca3"), 13), ("Through sentries", ENTRY, 7), ("In capability mode", IN_CAPABILITY_MODE, 9),
+            ("Loops and branches call nothing", LOOP, 9), ("The halt", FIRST, 7)):
+        yield session(about, text, every_step(steps))
+    yield session("Ticks and bytes count as events, and call nothing", LEAVES, "tick 2; calls; step 1; byte 3; calls; step 2; calls; ago")
+    yield session("On a schedule", WAITS, "calls; step 30; calls; step 40; calls; trap 100; calls; step 1; calls; back 3; calls", (1000, 5, b""))
+    yield session("With bytes", LEAVES, "step 2; calls; step 3; calls; step 4; calls", (1, 1, b"AB"))
+    yield session("With labels", RECURSES, "step 14; calls; step 30; calls", None, TABLE | {"f": RAM + 16, "out": RAM + 36})
+    yield session("Pairs with labels", PAIRS, "step 12; calls; step 3; calls", None, TABLE | {"there": RAM + 60, "here": RAM + 40})
+
+
 # ---- refusals
 
 REFUSED = [
-    "ago 1", "ago x", "back", "back 1 1", "back x", "back -1", "back -0", "back 00", "back a0", "back 18446744073709551616",
+    "calls 1", "calls a0", "calls calls", "calls to stop", "ago 1", "ago x", "back", "back 1 1", "back x", "back -1", "back -0", "back 00", "back a0", "back 18446744073709551616",
     "back to", "back stop", "back to 1", "back to stops", "back To stop", "back to Stop", "back to trap", "back stop to",
     "back to stop 1", "back 1 stop", "back 1 to stop", "back to stop to", "back to to stop", "back tostop",
     *(f"stop changed{rest}" for rest in (
-        "", " x", " x32", " a0 1", " ca0 16", " pcc 1", " mstatus", " mtvec", " 0x80000008", " 0x8000000f", " 8", " -16", " .text",
+        "", " x", " x32", " a0 1", " ca0 16", " pcc 1", " mstatus", " mtvec", " -16", " .text",
         " 0x80000000 0", " 0x80000000 4097", " 0x80000000 -1", " 0x80000000 x", " 0x80000000 16 1", " 0x80000000 a0",
         " 0x10000000000000000", " 0x10000000000000000 1", " -1 1", " x 1", " PCC", " A0", " (ca0)", " changed", " at 0x80000000")),
     "stop Changed a0", "stop change a0", "stop changes a0", "stop at changed", "stop trap changed",
@@ -418,7 +511,7 @@ REFUSED = [
         "", " a0", " a0 0", " a0 1000001", " a0 -1", " a0 x", " a0 1 1", " 1 a0", " 0x80000008 1", " x 1", " x32 1", " mstatus 1",
         " pcc", " 0x80001000 0", " 0x80001008 1", " 0x80001000", " 0 1000001")),
 ]
-NO_COMMANDS = ["Ago", "agos", "backs 1", "BACK 1", "origins a0", "origi a0", "change a0 1", "Changed a0 1", "losts a0", "lose a0",
+NO_COMMANDS = ["Ago", "agos", "backs 1", "BACK 1", "origins a0", "origi a0", "change a0 1", "Changed a0 1", "losts a0", "lose a0", "call", "Calls",
                "forth 1"]
 BEYOND = ("0x7fffffff 1", "0x7fffffff 2", "0x80000fff 2", "0x80000ff0 17", "0x80001000 1", "0 1", "0xffffffffffffffff 1",
           "0xfffffffffffff000 4096", "0xffffffffffffffff 4096", "0x10000000 1", "0x100000 8", "0x80000001 4096")
@@ -525,7 +618,8 @@ def named():
 
 
 def conversations():
-    for part in (chains, false, memory, specials, traps, jumps, back_and_forth, to_stops, changes, refusals, schedules,
+    for part in (chains, stretches, false, memory, specials, traps, jumps, back_and_forth, to_stops, changes, calls, refusals,
+                 schedules,
                  to_stops_on_schedules, named):
         yield from part()
 

@@ -19,6 +19,7 @@ back N|to stop
 ago
 origin R|ADDR
 lost R|ADDR
+calls
 stop at ADDR|changed R|changed ADDR [LEN]|trap|off
 stops
 reg R

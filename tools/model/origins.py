@@ -5,6 +5,7 @@ what places held before it and after it, by place how it made what it wrote ther
 number. Ticks and bytes write nothing. In lines LABEL stands after each address that has a label where there is a table of symbols.
 """
 
+from itertools import groupby
 from typing import NamedTuple, Optional
 
 from model.capabilities import base, flag, has, in_bounds, is_unsealed, otype, perms, set_bounds, top
@@ -29,11 +30,12 @@ NUMBER = Making("number")
 
 
 class Event(NamedTuple):
-    """What an event found and left, what it wrote by places, and its line."""
+    """What an event found and left, what it wrote by places, its line, and the step that it is, if it is one that the machine does."""
     before: State
     after: State
     writes: dict
     line: str
+    step: Optional[NamedTuple] = None
 
 
 def held(state, place):
@@ -79,13 +81,32 @@ def notes(source, value):
     return "".join(f", {text}" for text, holds in told if holds)
 
 
+def source_text(event, place):
+    """A place, where the value came from that an event wrote there, and what was cut."""
+    source = event.writes[place].source
+    if source is None:
+        return f"{name_of(place)} from no capability"
+    return f"{name_of(place)} from {name_of(source)}{notes(held(event.before, source), held(event.after, place))}"
+
+
 def written_text(number, event, place):
     """The line of the event of this number that wrote a place."""
-    making = event.writes[place]
-    if making.source is None:
-        return f"{name_of(place)} from no capability: {number} {event.line}"
-    cut = notes(held(event.before, making.source), held(event.after, place))
-    return f"{name_of(place)} from {name_of(making.source)}{cut}: {number} {event.line}"
+    return f"{source_text(event, place)}: {number} {event.line}"
+
+
+def instruction(event):
+    """Where an event's instruction stands, its word and its text."""
+    return event.line.partition(": ")[0]
+
+
+def stretch_lines(links):
+    """The lines of links one after the other that differ in their numbers and values alone: of more than three all between the first and
+    the last are one line, with their count."""
+    lines = [written_text(*link) for link in links]
+    if len(links) < 4:
+        return lines
+    _, event, place = links[0]
+    return [lines[0], f"{source_text(event, place)}, {len(links) - 2} times: {instruction(event)}", lines[-1]]
 
 
 def opening_text(opening, place):
@@ -209,14 +230,22 @@ def last(events, place, does=lambda event, place: True):
     return next((it for it in numbers if place in events[it - 1].writes and does(events[it - 1], place)), None)
 
 
-def origin(events, opening, place):
-    """The lines of `origin`, newest first."""
-    lines = []
+def chain(events, place):
+    """The links of what a place holds, newest first, each with its event's number, and the place that they lead down to, if they do."""
+    links = []
     while place and (number := last(events, place)):
         event = events[number - 1]
-        lines.append(written_text(number, event, place))
+        links.append((number, event, place))
         events, place = events[:number - 1], event.writes[place].source
-    return lines + ([opening_text(opening, place)] if place else [])
+    return links, place
+
+
+def origin(events, opening, place):
+    """The lines of `origin`, newest first."""
+    links, end = chain(events, place)
+    stretches = groupby(links, lambda link: (source_text(*link[1:]), instruction(link[1])))
+    lines = [line for _, stretch in stretches for line in stretch_lines(list(stretch))]
+    return lines + ([opening_text(opening, end)] if end else [])
 
 
 def losses(events, place):

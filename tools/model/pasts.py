@@ -3,7 +3,7 @@
 Where a session has a schedule, its own events are those that the schedule has in turn: a byte before a step, the step, and a tick after
 it.
 """
-from model import origins, recorded
+from model import calls, origins, recorded
 from model.origins import Event, held
 from model.sessions import Optional, Refused, Session, number, one_of, place_of
 from model.words import ONES
@@ -18,7 +18,7 @@ class Past(Session):
     """A session of the machine of a text."""
 
     OPERANDS = Session.OPERANDS | {"ago": (), "back": (distance, Optional(one_of("stop"), lambda session: None)),
-                                   "changed": (place_of, Session.COUNT), "origin": (place_of,), "lost": (place_of,)}
+                                   "changed": (place_of, Session.COUNT), "origin": (place_of,), "lost": (place_of,), "calls": ()}
 
     def begin(self):
         super().begin()
@@ -82,6 +82,9 @@ class Past(Session):
 
     def on_lost(self, place):
         return "".join(f"{line}\n" for line in origins.lost(self.events, self.within(place)))
+
+    def on_calls(self):
+        return "".join(f"{line}\n" for line in calls.lines(self.events))
 
     def answers(self, lines):
         """The replies to lines, one after the other."""

@@ -53,7 +53,7 @@ def event(machine):
         if PCC not in writes and not after.pcc[2]:
             writes[PCC] = Making("moved", PCC, number=after.pcc[1])
     text = "-" if step.word is None else f"{step.word:08x} {text_of(step.word, flag(before.pcc))}"
-    return Event(before, after, writes, f"{placed(before.pcc[1])} {text}: {effect}")
+    return Event(before, after, writes, f"{placed(before.pcc[1])} {text}: {effect}", step)
 
 
 def trap_text(cause, mtval):

@@ -82,9 +82,9 @@ REST = [
     ("policies as texts, runs that are watched by one, audits",
      "policy_text/specs/Policy, Sound; policy_runs/specs/Keeping; breach_texts/specs/Text; "
      "policy_audit/specs/Found, Told, Lines, Text, Entries"),
-    ("where a value came from, and where a tag was lost",
+    ("where a value came from, where a tag was lost, who called whom",
      "origins/specs/Places, Making, Made, Tags, Kept, Search, Parts; past/specs/Replay, Position, Given; "
-     "origin_texts/specs/Link, Conditions, Origin"),
+     "origin_texts/specs/Link, Stretches, Chain, Conditions, Origin, Calls"),
     ("sessions",
      "debug_commands/specs/Address, Command; debugger/specs/SessionState, Stops, Stepping, LastStop, Reaching, Reply, Answers, "
      "Conversation, Talk, OnSchedule"),

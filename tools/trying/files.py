@@ -58,7 +58,7 @@ FILES = [
     File("lengths", command_lines.length, 69, piece=20),
     File("word_texts", command_lines.word, 126, piece=20),
     File("sessions", conversations.session, 206, piece=10),
-    File("pasts", conversations.session, 256, piece=10),
+    File("pasts", conversations.session, 320, piece=10),
     File("talks", conversations.talk, 171, piece=20),
     File("runs", programs.program, 15),
     File("plans", command_lines.plan, 315, piece=10),

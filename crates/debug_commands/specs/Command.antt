@@ -19,7 +19,7 @@ use Rattle.reach.specs.declared.may.Horizon.{Horizon}
 use Rattle.reach.specs.declared.may.Horizon.TheVariants.{Stretch, Turn}
 use Rattle.origins.specs.declared.place.Place.{Place}
 use Rattle.origins.specs.declared.place.Place.TheVariants as holder
-use Rattle.debug_commands.specs.declared.command.Recall.TheVariants.{Ago, Origin, Lost}
+use Rattle.debug_commands.specs.declared.command.Recall.TheVariants.{Ago, Origin, Lost, Calls}
 use Rattle.debug_commands.specs.declared.command.SetStops.TheVariants.{Add, Clear}
 use Rattle.debug_commands.specs.declared.command.Stop.TheVariants as stop
 use Rattle.debug_commands.specs.declared.command.View.{View}
@@ -109,10 +109,15 @@ holder_and_number symbols high (r ∷ []) = Err B2
 holder_and_number symbols high (r ∷ n ∷ []) = or_B2 (both (holder_in symbols r) (read_number (number_between 1 high n)))
 holder_and_number symbols high (r ∷ n ∷ m ∷ rest) = Err B2
 
--- what is watched for a change: what holds a capability, or so many bytes from an address
-abbrev pub held_watched : Option Place → Result Watched DebugFault
-held_watched (Some place) = Ok (Held place)
-held_watched None = Err B2
+-- What is watched for a change: what holds a capability, or so many bytes from an address. From one that is no multiple of 16 they are 16
+-- where their number is left out.
+abbrev pub word_watched : Option ℕ → Result Watched DebugFault
+word_watched (Some address) = Ok (Bytes address 16)
+word_watched None = Err B2
+
+abbrev pub held_watched : Option Place → Option ℕ → Result Watched DebugFault
+held_watched (Some place) address = Ok (Held place)
+held_watched None address = word_watched address
 
 abbrev pub bytes_watched : Option (ℕ × ℕ) → Result Watched DebugFault
 bytes_watched (Some p) = Ok (Bytes p.0 p.1)
@@ -120,7 +125,7 @@ bytes_watched None = Err B2
 
 abbrev pub watched : List Symbol → ℕ → List (List ℕ) → Result Watched DebugFault
 watched symbols high [] = Err B2
-watched symbols high (r ∷ []) = held_watched (holder_in symbols r)
+watched symbols high (r ∷ []) = held_watched (holder_in symbols r) (address_at symbols r)
 watched symbols high (a ∷ n ∷ []) = bytes_watched (both (address_at symbols a) (read_number (number_between 1 high n)))
 watched symbols high (a ∷ n ∷ m ∷ rest) = Err B2
 
@@ -345,6 +350,7 @@ table help =
     ∷ line (codes "ago") [] (codes "ago") (nothing (Recalls Ago))
     ∷ line (codes "origin") (codes " R|ADDR") (codes "origin ca0") (a_holder (λ place. Recalls (Origin place)))
     ∷ line (codes "lost") (codes " R|ADDR") (codes "lost ca0") (a_holder (λ place. Recalls (Lost place)))
+    ∷ line (codes "calls") [] (codes "calls") (nothing (Recalls Calls))
     ∷ of_states help
 
 -- the number of the line that has a name, of those from one number on

@@ -7,7 +7,7 @@ use Rattle.debug_commands.specs.declared.command.Events.{Events}
 use Rattle.debug_commands.specs.declared.command.Events.TheVariants.{Steps, Ticks, Byte, Until, Go, Changed}
 use Rattle.origins.specs.Places.{IsHolder}
 use Rattle.debug_commands.specs.declared.command.Recall.{Recall}
-use Rattle.debug_commands.specs.declared.command.Recall.TheVariants.{Ago, Origin, Lost}
+use Rattle.debug_commands.specs.declared.command.Recall.TheVariants.{Ago, Origin, Lost, Calls}
 use Rattle.debug_commands.specs.declared.command.View.{View}
 use Rattle.debug_commands.specs.declared.command.View.TheVariants.{Register, SpecialRegister, Memory, Words, WordsAtPcc}
 
@@ -31,6 +31,7 @@ abbrev pub IsRecalledWithinLimits : Recall → Type 0
 IsRecalledWithinLimits Ago = ⊤
 IsRecalledWithinLimits (Origin place) = IsHolder place
 IsRecalledWithinLimits (Lost place) = IsHolder place
+IsRecalledWithinLimits Calls = ⊤
 
 abbrev pub IsWithinLimits : Command → Type 0
 IsWithinLimits (Gives events) = AreWithinLimits events

@@ -106,6 +106,8 @@ pub enum Recall {
     Origin(Place),
     /// Where the tag of a place went.
     Lost(Place),
+    /// Who called whom and has not returned.
+    Calls,
 }
 
 /// How far a command goes back.

@@ -203,7 +203,22 @@ pub(crate) fn holder_and_number(
     }
 }
 
-/// What is watched for a change: what holds a capability, or an address and a number of 1 to `high`, or else it is B2.
+/// What a single word has watched: what holds a capability, or 16 bytes from another address.
+fn held_or_bytes(symbols: &Symbols, word: &[u8]) -> Result<Watched, DebugFault>
+    ensures { result ≡ spec.held_watched (spec.holder_in symbols.now word.now) (address_at symbols.now word.now) }
+{
+    match holder_in(symbols, word) {
+        Some(place) => Ok(Watched::Held(place)),
+        None => {
+            let address = address_at(symbols, word).ok_or(DebugFault::B2)?;
+            let count = CAPABILITY_BYTES;
+            Ok(Watched::Bytes { address, count })
+        }
+    }
+}
+
+/// What is watched for a change: what holds a capability, or an address and a number of 1 to `high`, which is 16 where the address is no
+/// granule's and no number follows; or else it is B2.
 pub(crate) fn watched(symbols: &Symbols, operands: &[u8], high: u64) -> Result<Watched, DebugFault>
     ensures { result ≡ spec.watched symbols.now high (words_of operands.now) }
 {
@@ -211,10 +226,7 @@ pub(crate) fn watched(symbols: &Symbols, operands: &[u8], high: u64) -> Result<W
         return Err(DebugFault::B2);
     };
     let Some((count, rest)) = split_word(rest) else {
-        return match holder_in(symbols, place) {
-            Some(place) => Ok(Watched::Held(place)),
-            None => Err(DebugFault::B2),
-        };
+        return held_or_bytes(symbols, place);
     };
     if split_word(rest).is_some() {
         return Err(DebugFault::B2);

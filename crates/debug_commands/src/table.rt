@@ -64,6 +64,7 @@ macro_rules! of_events {
             "ago" ("", "ago") (nothing) n => Command::Recalls(Recall::Ago);
             "origin" (" R|ADDR", "origin ca0") (holder) p => Command::Recalls(Recall::Origin(p));
             "lost" (" R|ADDR", "lost ca0") (holder) p => Command::Recalls(Recall::Lost(p));
+            "calls" ("", "calls") (nothing) n => Command::Recalls(Recall::Calls);
         }
     };
 }
@@ -276,9 +277,9 @@ pub fn help_text() -> &'static str
 
 /// What `help` answers of the line of this number, if it is one of stops or of what is shown.
 fn about_states(sought: u8) -> &'static str
-    ensures { result.now ≡ spec.about_among 11 (of_states spec.help_on) sought }
+    ensures { result.now ≡ spec.about_among 12 (of_states spec.help_on) sought }
 {
-    of_states!(about sought 11 (""))
+    of_states!(about sought 12 (""))
 }
 
 /// What `help` answers of the command whose line in the table has this number, counted from 0: its operands, and an example; nothing
@@ -292,9 +293,9 @@ pub fn about_line(sought: u8) -> &'static str
 
 /// The number of the line of stops or of what is shown that has this name.
 fn state_line_named(name: &[u8]) -> Option<u8>
-    ensures { result ≡ spec.line_named 11 (of_states (λ _ _. Err B2)) name.now }
+    ensures { result ≡ spec.line_named 12 (of_states (λ _ _. Err B2)) name.now }
 {
-    of_states!(numbered name 11 (None))
+    of_states!(numbered name 12 (None))
 }
 
 /// The number of the line of the table that has this name, counted from 0.

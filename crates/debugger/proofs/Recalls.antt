@@ -8,7 +8,7 @@ use Rattle.debug_commands.specs.declared.command.Command.TheVariants.{Recalls}
 use Rattle.origins.specs.declared.place.Place.{Place}
 use Rattle.origins.specs.declared.place.Place.TheVariants as place
 use Rattle.debug_commands.specs.declared.command.Recall.{Recall}
-use Rattle.debug_commands.specs.declared.command.Recall.TheVariants.{Ago, Origin, Lost}
+use Rattle.debug_commands.specs.declared.command.Recall.TheVariants.{Ago, Origin, Lost, Calls}
 use Rattle.hart.specs.Opening.{opening}
 use Rattle.steps.specs.State.{State}
 use Rattle.origins.proofs.Stays.{place-stays}
@@ -36,6 +36,7 @@ recalled_there (Origin p) past s size limits inside =
     place-stays s (opening past.image) (sym size) p (there_inside p s limits inside)
 recalled_there (Lost p) past s size limits inside =
     place-stays s (opening past.image) (sym size) p (there_inside p s limits inside)
+recalled_there Calls past s size limits inside = tt
 
 pub recalled_in_time : (recall : Recall) (t : TimelineState) (past : PastState) → HasItsPast t → t.past ≡ Some past
     → IsRecalledWithinLimits recall → is_outside (Recalls recall) t.machine ≡ false → IsRecalledThere recall past

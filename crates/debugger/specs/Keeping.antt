@@ -3,7 +3,7 @@ use Rattle.std.specs.Prelude.{Bool, ◌^◌, ◌≤◌, [], ◌∷◌, ◌++◌,
 use Rattle.debug_commands.specs.declared.command.Events.{Events}
 use Rattle.debug_commands.specs.declared.command.Events.TheVariants.{Changed}
 use Rattle.debug_commands.specs.declared.command.Recall.{Recall}
-use Rattle.debug_commands.specs.declared.command.Recall.TheVariants.{Ago, Origin, Lost}
+use Rattle.debug_commands.specs.declared.command.Recall.TheVariants.{Ago, Origin, Lost, Calls}
 use Rattle.hart.specs.Opening.{opening}
 use Rattle.steps.specs.State.{State}
 use Rattle.origins.specs.Places.{IsThere}
@@ -34,6 +34,7 @@ abbrev pub IsRecalledThere : Recall → PastState → Type 0
 IsRecalledThere Ago past = Unit {0}
 IsRecalledThere (Origin place) past = IsThere place (opening past.image)
 IsRecalledThere (Lost place) past = IsThere place (opening past.image)
+IsRecalledThere Calls past = Unit {0}
 
 -- a timeline of these parts
 abbrev pub timeline : State → Option ReplayState → Bool → Option PastState → TimelineState

@@ -41,7 +41,7 @@ use Rattle.debug_commands.specs.declared.command.Events.TheVariants.{Steps, Tick
 use Rattle.origins.specs.declared.place.Place.{Place}
 use Rattle.origins.specs.declared.place.Place.TheVariants.{Register, Special, Granule}
 use Rattle.debug_commands.specs.declared.command.Recall.{Recall}
-use Rattle.debug_commands.specs.declared.command.Recall.TheVariants.{Ago, Origin, Lost}
+use Rattle.debug_commands.specs.declared.command.Recall.TheVariants.{Ago, Origin, Lost, Calls}
 use Rattle.debug_commands.specs.declared.command.SetStops.{SetStops}
 use Rattle.debug_commands.specs.declared.command.SetStops.TheVariants.{Add, Clear}
 use Rattle.debug_commands.specs.declared.command.View.{View}
@@ -51,6 +51,7 @@ use Rattle.symbols.specs.Symbols.{Symbol}
 use Rattle.debugger.specs.LastStop.{since_stop}
 use Rattle.debugger.specs.SessionState.{SessionState, TimelineState, session_with}
 use Rattle.origins.specs.Places.{held}
+use Rattle.origin_texts.specs.Calls.{calls_text}
 use Rattle.origin_texts.specs.Origin.{lost_text, origin_text}
 use Rattle.past.specs.Given.{PastState, count_of, first_of, position_at, state_at}
 use Rattle.past.specs.Position.{at, position_after}
@@ -212,6 +213,7 @@ unfoldable pub recalled : List Symbol → Recall → PastState → Option Replay
 recalled symbols Ago past replay = codes "events " ++ decimal (count_of past.given) ++ codes "\n"
 recalled symbols (Origin place) past replay = origin_text symbols past replay place
 recalled symbols (Lost place) past replay = lost_text symbols past replay place
+recalled symbols Calls past replay = calls_text symbols past replay
 
 abbrev pub recalled_in : List Symbol → Recall → Option PastState → Option ReplayState → List ℕ
 recalled_in symbols recall (Some past) replay = recalled symbols recall past replay
@@ -227,6 +229,7 @@ is_beyond_past (Back (By n)) past = nat_lt (count_of past.given) n
 is_beyond_past (Back ToStop) past = nat_lt most_searched (count_of past.given)
 is_beyond_past (Recalls (Origin place)) past = nat_lt most_searched (count_of past.given)
 is_beyond_past (Recalls (Lost place)) past = nat_lt most_searched (count_of past.given)
+is_beyond_past (Recalls Calls) past = nat_lt most_searched (count_of past.given)
 is_beyond_past other past = false
 
 -- a session without a past can't go back, and recalls nothing

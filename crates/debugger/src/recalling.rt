@@ -16,7 +16,7 @@ use crate::timeline::Timeline;
 use cap_bounds::CapRep;
 use debug_commands::{Back as Distance, Command, DebugFault, Recall, Stop};
 use machine::Machine;
-use origin_texts::{put_lost, put_origin};
+use origin_texts::{put_calls, put_lost, put_origin};
 use past::{Past, Replay};
 use schedules::{Count, Progress};
 use std::alloc::{AllocError, Global};
@@ -34,7 +34,8 @@ fn is_beyond_past(past: &Past, command: Command) -> bool
 {
     match command {
         Command::Back(Distance::By(events)) => past.count() < events,
-        Command::Back(Distance::ToStop) | Command::Recalls(Recall::Origin(_) | Recall::Lost(_)) => {
+        Command::Back(Distance::ToStop)
+        | Command::Recalls(Recall::Origin(_) | Recall::Lost(_) | Recall::Calls) => {
             past.count() > MOST_SEARCHED
         }
         _ => false,
@@ -70,6 +71,7 @@ fn append_recalled<P: Progress>(
         Recall::Ago => append(text, &[Text("events "), Decimal(past.count()), Text("\n")]),
         Recall::Origin(place) => put_origin(text, alloc, symbols, past, replay, place, counted),
         Recall::Lost(place) => put_lost(text, alloc, symbols, past, replay, place, counted),
+        Recall::Calls => put_calls(text, alloc, symbols, past, replay, counted),
     }
 }
 

@@ -29,7 +29,7 @@ use Rattle.origin_texts.specs.Origin.{last_among, onward, unless_tagged}
 
 -- ---- lists
 
-length_take : (n : ℕ) (xs : List Event) → length (take n xs) ≤ n
+pub length_take : (n : ℕ) (xs : List Event) → length (take n xs) ≤ n
 length_take zero xs = omega arith
 length_take (suc n) [] = omega arith
 length_take (suc n) (x ∷ xs) =
@@ -37,7 +37,7 @@ length_take (suc n) (x ∷ xs) =
     omega (arith, few)
 
 -- the first of a list that begins with them
-beginning : (xs ys : List Event) (n : ℕ) (all : List Event) → take n all ≡ xs ++ ys → take (length xs) all ≡ xs
+pub beginning : (xs ys : List Event) (n : ℕ) (all : List Event) → take n all ≡ xs ++ ys → take (length xs) all ≡ xs
 beginning [] ys n all e = refl
 beginning (x ∷ xs) ys zero all e = cc
 beginning (x ∷ xs) ys (suc n) [] e = cc

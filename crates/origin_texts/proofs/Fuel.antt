@@ -6,13 +6,11 @@ use Rattle.hart.specs.Opening.{opening}
 use Rattle.origins.specs.Making.{source}
 use Rattle.origins.specs.Places.{IsThere}
 use Rattle.origins.specs.declared.search.Found.{Found}
-use Rattle.origins.specs.declared.search.Sought.TheVariants.{Written, Lost}
+use Rattle.origins.specs.declared.search.Sought.TheVariants.{Lost}
 use Rattle.past.specs.Given.{PastState}
 use Rattle.past.specs.Replay.{ReplayState}
 use Rattle.symbols.specs.Symbols.{Symbol}
-use Rattle.origin_texts.specs.Link.{link_text}
-use Rattle.origin_texts.specs.Origin.{before, last_among, loss_by, loss_in, loss_text, losses, onward, origin_by, origin_in, origins}
-use Rattle.origin_texts.specs.Origin.{tell_on, unless_tagged}
+use Rattle.origin_texts.specs.Origin.{before, last_among, loss_by, loss_in, loss_text, losses, onward, tell_on, unless_tagged}
 use Rattle.origin_texts.proofs.Facts.{early}
 
 -- what is told of fewer events
@@ -25,27 +23,6 @@ tell_alike tell other n (Some p) m alike few = alike p m few
 tell_alike tell other n None m alike few = refl
 
 module _ (symbols : List Symbol) (past : PastState) (replay : Option ReplayState) where
-  origin_alike : (tell other : Place → ℕ → List ℕ) (place : Place) (n : ℕ) (found : Option Found)
-      → last_among past replay Written n place ≡ found → TellAlike tell other n
-      → origin_by symbols past replay tell place found ≡ origin_by symbols past replay other place found
-  origin_alike tell other place n None e alike = refl
-  origin_alike tell other place n (Some found) e alike =
-      ap (λ t. link_text symbols place found (before past replay found) ++ t)
-      (tell_alike tell other n (source found.making) found.before alike (early Written place n past replay found e))
-
-  enough : (a b : ℕ) (place : Place) (n : ℕ) → n < a → n < b
-      → origins symbols past replay a place n ≡ origins symbols past replay b place n
-  enough zero b place n few fewer = absurd (omega (arith, few))
-  enough (suc a) zero place n few fewer = absurd (omega (arith, fewer))
-  enough (suc a) (suc b) place n few fewer =
-      origin_alike (origins symbols past replay a) (origins symbols past replay b) place n (last_among past replay Written n place) refl
-      (λ p m less. enough a b p m (omega (arith, few, less)) (omega (arith, fewer, less)))
-
-  -- with as many links as there are events, and one
-  pub as_many : (n : ℕ) (place : Place) (m : ℕ) → m < n
-      → origins symbols past replay n place m ≡ origins symbols past replay (suc m) place m
-  as_many n place m few = enough n (suc m) place m few (omega arith)
-
   loss_alike : (tell other : Place → ℕ → List ℕ) (place : Place) (n : ℕ) (found : Option Found)
       → last_among past replay Lost n place ≡ found → TellAlike tell other n
       → loss_by symbols past replay tell place found ≡ loss_by symbols past replay other place found
@@ -69,16 +46,8 @@ module _ (symbols : List Symbol) (past : PastState) (replay : Option ReplayState
 
   -- ---- all that is told of a place
 
-  abbrev pub all_origins : Place → ℕ → List ℕ
-  all_origins place n = origins symbols past replay (suc n) place n
-
   abbrev pub all_of_losses : Place → ℕ → List ℕ
   all_of_losses place n = losses symbols past replay (suc n) place n
-
-  told_on : (n : ℕ) (next : Option (Place × ℕ)) → IfSome next (λ p. p.1 < n)
-      → tell_on (origins symbols past replay n) next ≡ tell_on all_origins next
-  told_on n (Some p) few = as_many n p.0 p.1 few
-  told_on n None few = refl
 
   lost_on : (n : ℕ) (next : Option (Place × ℕ)) → IfSome next (λ p. p.1 < n)
       → tell_on (losses symbols past replay n) next ≡ tell_on all_of_losses next
@@ -86,12 +55,6 @@ module _ (symbols : List Symbol) (past : PastState) (replay : Option ReplayState
   lost_on n None few = refl
 
   -- one link more
-  pub one_more : (text new all : List ℕ) (place : Place) (n : ℕ) (next : Option (Place × ℕ)) → IfSome next (λ p. p.1 < n)
-      → ((tell : Place → ℕ → List ℕ) → new ++ tell_on tell next ≡ text ++ origin_in symbols past replay tell place n)
-      → text ++ all_origins place n ≡ all → new ++ tell_on all_origins next ≡ all
-  one_more text new all place n next few told whole =
-      ap (λ t. new ++ t) (sym (told_on n next few)) ∙ told (origins symbols past replay n) ∙ whole
-
   pub one_more_loss : (text new all : List ℕ) (place : Place) (n : ℕ) (next : Option (Place × ℕ)) → IfSome next (λ p. p.1 < n)
       → ((tell : Place → ℕ → List ℕ) → new ++ tell_on tell next ≡ text ++ loss_in symbols past replay tell place n)
       → text ++ all_of_losses place n ≡ all → new ++ tell_on all_of_losses next ≡ all

@@ -1,3 +1,10 @@
 mod Facts
+mod Following
 mod Fuel
+mod Growing
+mod Histories
+mod Logging
+mod Stretching
+mod Telling
 mod There
+mod Unlisted

@@ -8,14 +8,15 @@ use Rattle.origins.specs.declared.place.Place.TheVariants.{Register, Special, Gr
 use Rattle.disassembler.specs.Shown.{name_or}
 use Rattle.explain.specs.ValueText.{value_line}
 use Rattle.steps.specs.Event.{after}
-use Rattle.steps.specs.State.{State}
+use Rattle.steps.specs.State.{State, pc_of}
 use Rattle.steps.specs.declared.event.Event.TheVariants.{Step}
 use Rattle.origins.specs.Making.{source}
 use Rattle.origins.specs.Places.{held}
 use Rattle.origins.specs.declared.search.Found.{Found}
 use Rattle.symbols.specs.Labels.{labelled}
 use Rattle.symbols.specs.Symbols.{Symbol}
-use Rattle.explain.specs.TraceLine.{trace_line}
+use Rattle.explain.specs.TraceLine.{step_word, trace_line}
+use Rattle.origin_texts.specs.Stretches.{Told}
 
 -- a place by its name, or a granule by its address
 unfoldable pub place_text : List Symbol → Place → List ℕ
@@ -53,11 +54,24 @@ abbrev pub source_text : List Symbol → Place → Option Place → State → Li
 source_text symbols place None s = codes "no capability"
 source_text symbols place (Some from) s = place_text symbols from ++ notes (held from s) (held place (after Step s))
 
+-- a place, and where its value came from
+abbrev pub origin_line : List Symbol → Place → Found → State → List ℕ
+origin_line symbols place found s = place_text symbols place ++ codes " from " ++ source_text symbols place (source found.making) s
+
+-- the next step's instruction, and where it stands, as in a trace
+abbrev pub step_text : List Symbol → State → List ℕ
+step_text symbols s = labelled symbols (pc_of s) ++ codes " " ++ step_word s
+
 -- the line of an event that wrote a place, which is the next step of this state
 unfoldable pub link_text : List Symbol → Place → Found → State → List ℕ
 link_text symbols place found s =
     place_text symbols place ++ codes " from " ++ source_text symbols place (source found.making) s ++ codes ": "
     ++ trace_line symbols (found.before + 1) s
+
+-- all that is told of it
+abbrev pub told_of : List Symbol → Place → Found → State → Told
+told_of symbols place found s =
+    record { source = origin_line symbols place found s; step = step_text symbols s; line = link_text symbols place found s }
 
 -- what nothing wrote is as the image has it
 abbrev pub opening_name : Place → List ℕ

@@ -1,21 +1,24 @@
 -- Where a value came from, and where a tag was lost: links over a session's past, the newest first.
 use Rattle.cap_bounds.specs.CapValue.{is_tagged}
-use Rattle.std.specs.Prelude.{ℕ, zero, suc, if◌then◌else◌, List, [], ◌∷◌, ◌++◌, take, Option, Some, None, codes}
+use Rattle.std.specs.Prelude.{ℕ, zero, suc, if◌then◌else◌, List, [], ◌∷◌, ◌++◌, map, take, Option, Some, None, codes}
 use Rattle.origins.specs.declared.place.Place.{Place}
 use Rattle.hart.specs.Opening.{opening}
 use Rattle.steps.specs.State.{State}
 use Rattle.origins.specs.Making.{source}
 use Rattle.origins.specs.Places.{held}
-use Rattle.origins.specs.Search.{last}
 use Rattle.origins.specs.Tags.{tag_asked}
 use Rattle.origins.specs.declared.search.Found.{Found}
+use Rattle.origins.specs.Search.{last}
 use Rattle.origins.specs.declared.search.Sought.{Sought}
 use Rattle.origins.specs.declared.search.Sought.TheVariants.{Written, Lost}
 use Rattle.past.specs.Given.{PastState, count_of, past_events, state_at}
 use Rattle.past.specs.Replay.{ReplayState}
 use Rattle.symbols.specs.Symbols.{Symbol}
+use Rattle.origin_texts.specs.Chain.{Chain, History, whole_chain}
 use Rattle.origin_texts.specs.Conditions.{condition_lines}
-use Rattle.origin_texts.specs.Link.{link_text, opening_text, place_text}
+use Rattle.origin_texts.specs.Link.{told_of, link_text, opening_text, place_text}
+use Rattle.origin_texts.specs.Stretches.{Told, stretch_texts, stretches}
+use Rattle.origin_texts.specs.declared.log.Link.{Link}
 
 -- what is told of an event at which a tag went, which is the next step of this state
 abbrev pub loss_text : List Symbol → Place → Found → State → List ℕ
@@ -49,25 +52,27 @@ module _ (past : PastState) (replay : Option ReplayState) where
   abbrev pub before : Found → State
   before found = state_at found.before past replay
 
+  abbrev pub history : History
+  history = record { last_writer = last_among Written; opening = opening past.image }
+
+-- what a chain leads down to in the opening state
+abbrev pub opening_line : List Symbol → PastState → Option Place → List ℕ
+opening_line symbols past (Some place) = opening_text symbols place (opening past.image)
+opening_line symbols past None = []
+
 module _ (symbols : List Symbol) (past : PastState) (replay : Option ReplayState) where
   -- ---- a derivation: a value's source, and the source's source, down to the opening state or to a number
 
-  abbrev pub origin_by : (Place → ℕ → List ℕ) → Place → Option Found → List ℕ
-  origin_by tell place None = opening_text symbols place (opening past.image)
-  origin_by tell place (Some found) =
-      link_text symbols place found (before past replay found) ++ tell_on tell (onward (source found.making) found.before)
+  abbrev pub told : Link → Told
+  told link = told_of symbols link.place link.found (before past replay link.found)
 
-  abbrev pub origin_in : (Place → ℕ → List ℕ) → Place → ℕ → List ℕ
-  origin_in tell place n = origin_by tell place (last_among past replay Written n place)
-
-  -- among the first n events: each link's event comes before that of the link above it, so that n links suffice, and one
-  abbrev pub origins : ℕ → Place → ℕ → List ℕ
-  origins zero place n = []
-  origins (suc links) place n = origin_in (origins links) place n
+  -- a chain, after links of which the first stretch is told with it
+  abbrev pub chain_text : List Told → Chain → List ℕ
+  chain_text first chain = stretch_texts (stretches first (map told chain.links)) ++ opening_line symbols past chain.opening
 
   -- how what a place holds came to be
   unfoldable pub origin_text : Place → List ℕ
-  origin_text place = origins (suc (count_of past.given)) place (count_of past.given)
+  origin_text place = chain_text [] (whole_chain (history past replay).last_writer place (count_of past.given))
 
   -- ---- tags that went; where the source had none, where the source's went, too
 

@@ -2,6 +2,8 @@
 ghost use Rattle.std.specs.Prelude.{◌≡◌, ◌<◌, ◌≤◌, ◌-◌, ◌^◌, ◌++◌, length, IsTrue, OnOk, string_bytes, IfSome};
 ghost use Rattle.texts.specs.Piece.{text_of, width_of, are_narrow};
 ghost use Rattle.steps.specs.Applying.{IsPlanned};
+ghost use Rattle.steps.specs.Event.{after};
+ghost use Rattle.steps.specs.declared.event.Event.TheVariants.{Step};
 ghost use Rattle.origins.specs.Making.{source};
 ghost use Rattle.origins.specs.Places.{IsThere};
 ghost use Rattle.origin_texts.specs.Link.{kept_notes, link_text, notes, opening_name, opening_text, seal_note, source_text, unless};
@@ -67,7 +69,7 @@ fn notes<C: CapRep>(from: C, made: C) -> [Piece<'static>; 3]
 }
 
 /// Where the value came from that the machine's next step, which was planned, writes at a place. It is done on the way.
-fn source_text<C: CapRep>(
+pub(crate) fn source_text<C: CapRep>(
     symbols: &Symbols,
     machine: &mut Machine<C>,
     planned: Planned<C>,
@@ -77,9 +79,11 @@ fn source_text<C: CapRep>(
     requires planned { IsPlanned C.value planned.effect machine.old }
     requires there { IsThere place machine.old }
     requires source { IfSome (source making) (λ from. IsThere from machine.old) }
-    ensures { result.bytes ≡ source_text symbols.now place (source making) machine.old }
+    ensures text { result.bytes ≡ source_text symbols.now place (source making) machine.old }
+    ensures state { machine.new ≡ after Step machine.old }
 {
     let Some(from) = making.source() else {
+        machine.apply(planned);
         return text(&[Text("no capability")]);
     };
     let mut source = text(&[Text(place_text(symbols, from).as_str())]);

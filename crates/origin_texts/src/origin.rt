@@ -2,19 +2,29 @@
 //!
 //! A session's past is gone through on machines of this crate's own, whatever the session's represents capabilities by: their states are
 //! the same.
-ghost use Rattle.std.specs.Prelude.{◌≡◌, ◌++◌, ◌≤◌, ◌<◌, ◌-◌, ◌^◌, ℕ, List, OnOk, IfOk, IfSome, option_copied, string_bytes};
+ghost use Rattle.std.specs.Prelude.{◌≡◌, ◌++◌, ◌≤◌, ◌<◌, ◌-◌, ◌^◌, [], ℕ, List, Some, OnOk, IfOk, IfSome, map, option_copied, string_bytes};
 ghost use Rattle.origins.specs.declared.place.Place.{Place};
 ghost use Rattle.hart.specs.Opening.{opening};
 ghost use Rattle.origins.specs.Kept.{AreThere};
 ghost use Rattle.origins.specs.Places.{IsThere};
 ghost use Rattle.origin_texts.specs.Origin as spec;
-ghost use Rattle.origin_texts.specs.Origin.{loss_text, onward, tell_on, unless_tagged};
-ghost use Rattle.past.specs.Given.{state_at};
+ghost use Rattle.origin_texts.specs.Chain.{no_links};
+ghost use Rattle.origin_texts.specs.Held.{AreMet, IsStretch, newest_first};
+ghost use Rattle.origin_texts.specs.Log.{AreLinks, Follows, chain_from};
+ghost use Rattle.origin_texts.specs.Origin.{history, loss_text, onward, opening_line, tell_on, told, unless_tagged};
+ghost use Rattle.origin_texts.specs.Put.{IsPut};
+ghost use Rattle.origin_texts.specs.Stretches.{Told};
+ghost use Rattle.past.specs.Given.{count_of, state_at};
 ghost use Rattle.past.specs.Giving.{HasSameSize};
 
+use crate::chain::{Followed, follow};
 use crate::conditions::append_conditions;
 use crate::link::{append_link, append_opening};
+use crate::log::{Link, log_of};
+use crate::opening::opening_machine;
 use crate::place::place_text;
+use crate::stretch::Stretch;
+use crate::told::{Told as ToldLink, tell};
 use cap_bounds::CapRep;
 use machine::Machine;
 use origins::{Found, Place, Sought, held, tag_asked};
@@ -71,47 +81,155 @@ fn onward(source: Option<Place>, before: u64) -> Option<(Place, u64)>
     }
 }
 
-/// Appends the line of the last of the first events that wrote a place, or what the opening state of the image has there, and answers
-/// what is told of next.
-fn append_next<P: Progress>(
+/// How many events a window has.
+const WINDOW: u64 = 131_072;
+
+/// The links of a window of events, and the place that is followed before it.
+fn links_of<P: Progress>(
+    alloc: Global,
+    past: &Past,
+    replay: Option<&Replay>,
+    place: Place,
+    from: u64,
+    to: u64,
+    counted: &mut Count<'_, P>,
+) -> Result<Followed, AllocError>
+    requires there { IsThere place (opening past.now.image) }
+    requires order { from ≤ to }
+    requires few { to ≤ count_of past.now.given }
+    ensures { IfOk result (λ f. Follows (history past.now (option_copied replay.entry)) from to place f.links.items f.next) }
+{
+    let log = log_of(alloc, past, replay, from, to, counted)?;
+    follow(alloc, &log, place, to)
+}
+
+/// What is told of links, the oldest first.
+fn tell_links(
+    alloc: Global,
+    symbols: &Symbols,
+    past: &Past,
+    replay: Option<&Replay>,
+    mut links: Vec<Link>,
+) -> Result<Vec<ToldLink>, AllocError>
+    requires { (events : ℕ) × AreLinks (history past.now (option_copied replay)) events links.items }
+    ensures { IfOk result (λ all. newest_first all.items ≡ map (told symbols.now past.now (option_copied replay.entry)) links.items) }
+{
+    // read, since its range is known
+    let _count = past.count();
+    let mut machine = opening_machine(alloc, past)?;
+    let mut events = past.events(replay);
+    let mut met = 0;
+    let mut all = Vec::new(alloc);
+    while let Some(link) = links.pop() {
+        events.give(&mut machine, link.found.before - met);
+        machine.hart();
+        all.push(tell(alloc, symbols, &mut machine, link)?)?;
+        events.next_event();
+        met = link.found.before + 1;
+    }
+    Ok(all)
+}
+
+/// Meets links of which this is told, the oldest first.
+fn put_told(text: &mut String, stretch: &mut Stretch, told: Vec<ToldLink>) -> Result<(), AllocError>
+    ensures { OnOk result ((first : List Told) → IsStretch stretch.old first
+        → AreMet (string_bytes text.old) (string_bytes text.new) stretch.new first (newest_first told.items)) }
+{
+    let mut left = told;
+    while let Some(newest) = left.pop() {
+        stretch.meet(text, newest)?;
+    }
+    Ok(())
+}
+
+/// Meets the links of a window of events, and answers the place that is followed before it.
+fn put_window<P: Progress>(
     text: &mut String,
+    stretch: &mut Stretch,
     alloc: Global,
     symbols: &Symbols,
     past: &Past,
     replay: Option<&Replay>,
     place: Place,
-    events: u64,
+    from: u64,
+    to: u64,
     counted: &mut Count<'_, P>,
-) -> Result<Option<(Place, u64)>, AllocError>
-    requires { IsThere place (opening past.now.image) }
-    ensures text { IfOk result (λ next. (tell : Place → ℕ → List ℕ) → string_bytes text.new ++ tell_on tell next
-        ≡ string_bytes text.old ++ spec.origin_in symbols.now past.now (option_copied replay.entry) tell place events) }
-    ensures there { IfOk result (λ next. IfSome next (λ p. IsThere p.0 (opening past.now.image) × (p.1 < events))) }
+) -> Result<Option<Place>, AllocError>
+    requires there { IsThere place (opening past.now.image) }
+    requires order { from ≤ to }
+    requires few { to ≤ count_of past.now.given }
+    ensures there { IfOk result (λ next. IfSome next (λ p. IsThere p (opening past.now.image))) }
+    ensures text { IfOk result (λ next. (whole : List ℕ)
+        → IsPut symbols.now past.now (option_copied replay.entry) (string_bytes text.old) stretch.old
+        (chain_from (history past.now (option_copied replay.entry)) (Some place) to) whole
+        → IsPut symbols.now past.now (option_copied replay.entry) (string_bytes text.new) stretch.new
+        (chain_from (history past.now (option_copied replay.entry)) next from) whole) }
 {
-    let Some(found) = last_among(alloc, past, replay, Sought::Written, place, events, counted)?
-    else {
-        append_opening(
-            text,
-            symbols,
-            &machine_after(alloc, past, replay, 0)?,
-            place,
-        )?;
-        return Ok(None);
-    };
-    let mut machine = machine_after(alloc, past, replay, found.before)?;
-    append_link(text, symbols, &mut machine, place, found)?;
-    Ok(onward(found.making.source(), found.before))
+    let Followed { links, next } = links_of(alloc, past, replay, place, from, to, counted)?;
+    let told = tell_links(alloc, symbols, past, replay, links)?;
+    put_told(text, stretch, told)?;
+    Ok(next)
+}
+
+/// Meets all links, window by window from the last on, and answers the place of the opening state that they lead down to.
+fn put_links<P: Progress>(
+    text: &mut String,
+    stretch: &mut Stretch,
+    alloc: Global,
+    symbols: &Symbols,
+    past: &Past,
+    replay: Option<&Replay>,
+    place: Place,
+    counted: &mut Count<'_, P>,
+) -> Result<Option<Place>, AllocError>
+    requires there { IsThere place (opening past.now.image) }
+    ensures there { IfOk result (λ next. IfSome next (λ p. IsThere p (opening past.now.image))) }
+    ensures text { IfOk result (λ next. IsStretch stretch.old []
+        → IsPut symbols.now past.now (option_copied replay.entry) (string_bytes text.new) stretch.new (no_links next)
+        (string_bytes text.old ++ spec.origin_text symbols.now past.now (option_copied replay.entry) place)) }
+{
+    let mut place = place;
+    let mut left = past.count();
+    while left > 0 {
+        let to = left;
+        left = to.saturating_sub(WINDOW);
+        let Some(from) = put_window(
+            text, stretch, alloc, symbols, past, replay, place, left, to, counted,
+        )?
+        else {
+            return Ok(None);
+        };
+        place = from;
+    }
+    Ok(Some(place))
+}
+
+/// Appends what the opening state has at the place that links lead down to.
+fn put_opening(
+    text: &mut String,
+    alloc: Global,
+    symbols: &Symbols,
+    past: &Past,
+    next: Option<Place>,
+) -> Result<(), AllocError>
+    requires { IfSome next (λ p. IsThere p (opening past.now.image)) }
+    ensures { OnOk result (string_bytes text.new ≡ string_bytes text.old ++ opening_line symbols.now past.now next) }
+{
+    match next {
+        Some(place) => append_opening(text, symbols, &opening_machine(alloc, past)?, place),
+        None => Ok(()),
+    }
 }
 
 /// Appends how what a place holds came to be: the last event that wrote it, and so on with its source, down to the opening state of the
-/// image or to a number. Each is one line.
+/// image or to a number. Each is one line; of more than three one after the other that are told alike the newest and the oldest have
+/// theirs, and one line counts those between.
 ///
-/// Each line costs a pass over the events before it, which `counted` counts.
+/// The events are gone over once, in windows from the last on, which `counted` counts.
 ///
 /// # Errors
 ///
 /// Out of memory.
-#[tactic(auto, unfolding(crate::specs::Origin::origin_text))]
 pub fn put_origin<P: Progress>(
     text: &mut String,
     alloc: Global,
@@ -125,11 +243,19 @@ pub fn put_origin<P: Progress>(
     ensures { OnOk result (string_bytes text.new
         ≡ string_bytes text.old ++ spec.origin_text symbols.now past.now (option_copied replay.entry) place) }
 {
-    let mut next = Some((place, past.count()));
-    while let Some((place, events)) = next {
-        next = append_next(text, alloc, symbols, past, replay, place, events, counted)?;
-    }
-    Ok(())
+    let mut stretch = Stretch::new(alloc);
+    let next = put_links(
+        text,
+        &mut stretch,
+        alloc,
+        symbols,
+        past,
+        replay,
+        place,
+        counted,
+    )?;
+    stretch.put(text)?;
+    put_opening(text, alloc, symbols, past, next)
 }
 
 /// The source of what an event wrote, if it has no tag.

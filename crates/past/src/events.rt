@@ -1,13 +1,16 @@
 //! The events of a past, in order.
-ghost use Rattle.std.specs.Prelude.{◌≡◌, ◌+◌, ◌<◌, ◌^◌, [], ◌∷◌, IfSome, IfNone, option_copied};
+ghost use Rattle.std.specs.Prelude.{◌≡◌, ◌+◌, ◌<◌, ◌^◌, ◌≤◌, [], ◌∷◌, IfSome, IfNone, drop, option_copied, take};
 ghost use Rattle.past.specs.Given.{count_of, count_of_one, events_of, events_of_one, position_after_one};
+ghost use Rattle.machine.specs.Run.{run_after};
+ghost use Rattle.past.specs.Giving.{HasSameSize};
 ghost use Rattle.past.specs.Position.{Position, beginning};
 
 use crate::given::{Given, count_of_one};
-use crate::giving::next_of;
+use crate::giving::{give, next_of};
 use crate::player::Player;
 use crate::replay::Replay;
-use machine::Event;
+use cap_bounds::CapRep;
+use machine::{Event, Machine};
 use std::marker::Model;
 
 /// A command that gave events, and those after it.
@@ -89,5 +92,45 @@ impl<'a> PastEvents<'a> {
         }
         self.left -= 1;
         Some(next_of(&mut self.player, self.given))
+    }
+
+    /// Gives some of the next events of one command to a machine, at most `n`, and answers how many.
+    fn give_some<C: CapRep>(&mut self, machine: &mut Machine<C>, n: u64) -> u64
+        requires { 1 ≤ n }
+        ensures events { self.new ≡ drop result self.old }
+        ensures state { machine.new ≡ run_after (take result self.old) machine.old }
+        ensures size { HasSameSize machine.old machine.new }
+        ensures few { result ≤ n }
+        ensures none { result ≡ 0 → self.old ≡ [] }
+    {
+        machine.hart();
+        if self.left == 0 {
+            let Some(Next { given, later }) = first_giving(self.later) else {
+                return 0;
+            };
+            self.given = given;
+            self.left = count_of_one(given);
+            self.later = later;
+        }
+        let some = self.left.min(n);
+        give(machine, &mut self.player, self.given, some);
+        self.left -= some;
+        some
+    }
+
+    /// Gives the next `n` events to a machine, or all that are left where they are fewer.
+    pub fn give<C: CapRep>(&mut self, machine: &mut Machine<C>, n: u64)
+        ensures events { self.new ≡ drop n self.old }
+        ensures state { machine.new ≡ run_after (take n self.old) machine.old }
+        ensures size { HasSameSize machine.old machine.new }
+    {
+        let mut left = n;
+        while left > 0 {
+            let given = self.give_some(machine, left);
+            if given == 0 {
+                return;
+            }
+            left -= given;
+        }
     }
 }

@@ -53,7 +53,7 @@ fn give_each<C: CapRep>(machine: &mut Machine<C>, player: &mut Player, given: Gi
 }
 
 /// The same, where steps have no schedule in as few calls as there can be.
-fn give<C: CapRep>(machine: &mut Machine<C>, player: &mut Player, given: Given, n: u64)
+pub(crate) fn give<C: CapRep>(machine: &mut Machine<C>, player: &mut Player, given: Given, n: u64)
     requires { MayGive n player.old }
     ensures state { machine.new ≡ run_after (some_of n given player.old) machine.old }
     ensures position { player.new ≡ place_after n given player.old }

@@ -1,9 +1,9 @@
 -- Steps one after the other, each of them plain, by code of which a lasting rule holds: the rule goes on holding, the code stays where the
 -- rule lets it be fetched, and certificates are kept.
-use Rattle.std.proofs.Common.{◌≡◌, ℕ, zero, suc, ◌<◌, ◌≤◌, Bool, true, false, Option, None, List, length, get_or}
-use Rattle.std.proofs.Common.{replicate, sym, ◌∙◌, subst, arith, inl, inr}
+use Rattle.std.proofs.Common.{◌≡◌, ℕ, zero, suc, ◌<◌, ◌≤◌, Bool, Option, None, List, get_or}
+use Rattle.std.proofs.Common.{replicate, sym, subst, arith, inl, inr}
 use Rattle.std.proofs.lemmas.List.Elements.{Contains-get_or}
-use Rattle.std.specs.List.{Contains, HoldsAt}
+use Rattle.std.specs.List.{Contains}
 use Rattle.base.specs.Ram.{ram_base}
 use Rattle.cap_bounds.specs.CapValue.{CapValue}
 use Rattle.tagged_memory.specs.AccessLaws.{in_ram-place_fault}
@@ -27,7 +27,10 @@ use Rattle.reach.specs.Ranges.{IsInOne}
 use Rattle.policy.specs.Terms.{Terms}
 use Rattle.policy.specs.Watch.{Applies, Holds, HoldEach, fetched_at}
 use Rattle.policy.specs.Cover.{ShareNone}
-use Rattle.policy.specs.Known.{IsLasting, Applied, AreKnown, IsCertified, AreCertified, Puts, KeepsCertificate, StaysAway, OutOfReach}
+use Rattle.policy.specs.Known.{IsLasting, Applied, AreKnown, IsCertified, AreCertified, Puts, KeepsCertificate, IsGuarded, Spares, Stands}
+use Rattle.policy.specs.Known.{Knows, rules_of}
+use Rattle.policy.specs.declared.guard.Standing.TheVariants.{Guarded}
+use Rattle.policy.specs.declared.watcher.Watcher.{Watcher}
 use Rattle.policy.proofs.Certificates.{certified-step}
 use Rattle.policy.proofs.Covers.{in_or_out}
 use Rattle.policy.proofs.Fetching.{about-fetched, executes, in-execute, plain-fetched}
@@ -96,53 +99,54 @@ module _ (s : State) (is : IsState s) (n : ℕ) (goes : (k : ℕ) → k < n → 
         in-execute rule t (executes rule t (holds-at k (omega arith))) (plain-fetched t by.running by.plain) (pc_of t) (omega arith)
         (omega arith)
 
-  module _ (rules : List Terms) (hold : HoldEach rules s) (at : Option ℕ) (same_at : at ≡ fetched_at s) (guard : Terms)
-      (there : Contains rules guard) (was : Applied at guard) where
+  module _ (rules : List Terms) (hold : HoldEach rules s) (at : Option ℕ) (same_at : at ≡ fetched_at s) where
     holds-was : (rule : Terms) → Contains rules rule → Applied at rule → Holds rule s
     holds-was rule one about = hold rule one (subst (Applies rule) same_at about.1)
 
     known-at : AreKnown rules at (steps_after n s)
     known-at = λ rule one about. holds-at rule about.0 (holds-was rule one about) n (omega arith)
 
-    hold-at : ((rule : Terms) → Contains rules rule → StaysAway at guard rule) → (k : ℕ) → k < n → HoldEach rules (steps_after k s)
-    hold-at away k below = λ rule one about. elim (away rule one) [
+    hold-at : IsGuarded rules at → (k : ℕ) → k < n → HoldEach rules (steps_after k s)
+    hold-at by k below = λ rule one about. elim (by.away rule one) [
       | inl also ↦ holds-at rule also.0 (holds-was rule one also) k (omega arith)
       | inr apart ↦ absurd (apart (pc_of (steps_after k s)) (about-fetched rule (steps_after k s) about)
-          (fetched-at guard was.0 (holds-was guard there was) k below))
+          (fetched-at by.guard by.applied.0 (holds-was by.guard by.there by.applied) k below))
     ]
 
-    certified-at : (certified : List Bool) → AreCertified rules certified s.memory
-        → ((k : ℕ) → k < length rules → get_or certified k false ≡ true → HoldsAt (OutOfReach at guard) rules k)
-        → AreCertified rules certified (steps_after n s).memory
-    certified-at certified are out = λ k below marked d. elim (out k below marked d) [
-      | inl also ↦ own-at (get_or rules k d) also.0 (holds-was (get_or rules k d) (Contains-get_or rules k d below) also)
-          (are k below marked d) n (omega arith)
-      | inr apart ↦ apart-at guard was.0 (holds-was guard there was) (get_or rules k d) apart (are k below marked d) n (omega arith)
-    ]
+    certified-at : (certified now : List Bool) → AreCertified rules certified s.memory → Spares rules at certified now
+        → AreCertified rules now (steps_after n s).memory
+    certified-at certified now are spares = λ k below marked d.
+        let kept = spares k below marked in
+        let by = kept.1 in
+        let one = are k below kept.0 d in
+        elim (by.out d) [
+          | inl also ↦ own-at (get_or rules k d) also.0 (holds-was (get_or rules k d) (Contains-get_or rules k d below) also) one n
+              (omega arith)
+          | inr apart ↦ apart-at by.guard by.applied.0 (holds-was by.guard by.there by.applied) (get_or rules k d) apart one n (omega arith)
+        ]
 
--- ---- a run of as many steps
+-- ---- a run of as many steps from where a watcher stands under a guard
 
-module _ (s : State) (is : IsState s) (n : ℕ) (goes : (k : ℕ) → k < n → GoesBy None (run_after (replicate k Step) s)) where
+module _ (w : Watcher) (s : State) (knows : Knows w s) (under : w.standing ≡ Guarded) (n : ℕ)
+    (goes : (k : ℕ) → k < n → GoesBy None (run_after (replicate k Step) s)) where
+  stands : Stands Guarded (rules_of w) w.known s
+  stands = rw under at knows.stands
+
   goes-at : (k : ℕ) → k < n → GoesBy None (steps_after k s)
   goes-at k below = subst (GoesBy None) (run_after-steps k s) (goes k below)
 
-  module _ (rules : List Terms) (hold : HoldEach rules s) (at : Option ℕ) (same_at : at ≡ fetched_at s) (guard : Terms)
-      (there : Contains rules guard) (was : Applied at guard) where
-    pub known-run : (later : State) → later ≡ run_after (replicate n Step) s → AreKnown rules at later
-    known-run later ends =
-        subst (AreKnown rules at) (sym (run_after-steps n s) ∙ sym ends)
-        (known-at s is n goes-at rules hold at same_at guard there was)
+  pub known-run : AreKnown (rules_of w) w.known (run_after (replicate n Step) s)
+  known-run =
+      subst (AreKnown (rules_of w) w.known) (sym (run_after-steps n s))
+      (known-at s knows.state n goes-at (rules_of w) stands.0 w.known stands.1)
 
-    pub hold-run : ((rule : Terms) → Contains rules rule → StaysAway at guard rule) → (k : ℕ) → k < n
-        → HoldEach rules (run_after (replicate k Step) s)
-    hold-run away k below =
-        subst (HoldEach rules) (sym (run_after-steps k s)) (hold-at s is n goes-at rules hold at same_at guard there was away k below)
+  pub certified-run : (now : List Bool) → Spares (rules_of w) w.known w.certified.items now
+      → AreCertified (rules_of w) now (run_after (replicate n Step) s).memory
+  certified-run now spares =
+      subst (λ t. AreCertified (rules_of w) now t.memory) (sym (run_after-steps n s))
+      (certified-at s knows.state n goes-at (rules_of w) stands.0 w.known stands.1 w.certified.items now knows.remembers.certified spares)
 
-    pub certified-run : (later : State) → later ≡ run_after (replicate n Step) s → (certified now : List Bool)
-        → AreCertified rules certified s.memory
-        → ((k : ℕ) → k < length rules → get_or now k false ≡ true
-        → (get_or certified k false ≡ true) × HoldsAt (OutOfReach at guard) rules k) → AreCertified rules now later.memory
-    certified-run later ends certified now are kept =
-        subst (λ t. AreCertified rules now t.memory) (sym (run_after-steps n s) ∙ sym ends)
-        (certified-at s is n goes-at rules hold at same_at guard there was now
-        (λ k below marked. are k below (kept k below marked).0) (λ k below marked. (kept k below marked).1))
+  pub hold-run : (k : ℕ) → k < n → HoldEach (rules_of w) (run_after (replicate k Step) s)
+  hold-run k below =
+      subst (HoldEach (rules_of w)) (sym (run_after-steps k s))
+      (hold-at s knows.state n goes-at (rules_of w) stands.0 w.known stands.1 stands.2 k below)

@@ -1,5 +1,5 @@
 -- A rule holds by its certificate, and what keeps certificates.
-use Rattle.std.proofs.Common.{◌≡◌, ℕ, ◌+◌, ◌<◌, Bool, true, false, Option, None, Some, List, length, set, get_or, refl, sym, ap, ◌∙◌}
+use Rattle.std.proofs.Common.{◌≡◌, ℕ, ◌+◌, ◌<◌, Bool, true, false, Option, None, Some, List, length, set, get_or, sym, ap, ◌∙◌}
 use Rattle.std.proofs.Common.{subst, arith, inl, inr, ◌⊎◌}
 use Rattle.std.proofs.lemmas.Bool.{cases_eq, cases_lt, cases_Bool, false≢true}
 use Rattle.std.proofs.lemmas.List.{get_or-set_other, get_or-set_same, get_or_default, get_or_past}
@@ -17,11 +17,8 @@ use Rattle.tagged_memory.specs.MemoryLaws.{word_at-capability_written_other, has
 use Rattle.tagged_memory.specs.MemoryLaws.{has_tag-capability_written_other}
 use Rattle.steps.specs.declared.effect.Effect.{Effect}
 use Rattle.steps.specs.declared.effect.Effect.TheVariants as effect
-use Rattle.steps.specs.declared.event.Event.{Event}
-use Rattle.steps.specs.declared.event.Event.TheVariants.{Tick, Byte}
 use Rattle.steps.specs.AppliedLaws.{IsSoundEffect}
 use Rattle.steps.specs.Effect.{applied}
-use Rattle.steps.specs.Event.{after}
 use Rattle.steps.specs.EventLaws.{step_effect-sound}
 use Rattle.steps.specs.IsState.{IsState}
 use Rattle.steps.specs.State.{State}
@@ -174,11 +171,6 @@ pub certified-those : (rules : List Terms) (before now : List Bool) (s : State) 
 certified-those rules before now s is keeps certified = λ k below marked d.
     let both = keeps k below marked in
     certified-step (get_or rules k d) s is (both.1 d) (certified k below both.0 d)
-
--- the other events leave memory as it is
-pub other-memory : (e : Event) (s : State) → (e ≡ Tick) ⊎ ((b : ℕ) × (e ≡ Byte b)) → (after e s).memory ≡ s.memory
-other-memory e s (inl same) = subst (λ x. (after x s).memory ≡ s.memory) (sym same) refl
-other-memory e s (inr some) = subst (λ x. (after x s).memory ≡ s.memory) (sym some.1) refl
 
 -- ---- marks
 

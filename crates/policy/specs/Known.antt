@@ -1,21 +1,24 @@
 -- What a watcher knows between two looks: rules that hold, and certificates of rules, by which one look at the registers shows that they
 -- hold.
-use Rattle.std.specs.Prelude.{◌≡◌, ℕ, ◌<◌, Bool, true, false, List, length, Option, IsNone, Contains, slice_index_or, ◌⊎◌}
+use Rattle.std.specs.Prelude.{◌≡◌, ℕ, ◌<◌, Bool, true, false, List, length, Option, IsNone, Contains, slice_index_or, ◌⊎◌, ⊤}
 use Rattle.std.specs.List.{HoldsAt}
 use Rattle.cap_bounds.specs.CapValue.{CapValue, is_tagged}
 use Rattle.tagged_memory.specs.Memory.{Memory}
 use Rattle.steps.specs.declared.effect.Effect.{Effect}
 use Rattle.steps.specs.declared.effect.Effect.TheVariants.{StoreCapability}
+use Rattle.steps.specs.IsState.{IsState}
 use Rattle.steps.specs.State.{State}
 use Rattle.authority.specs.Reachable.{IsRoot, IsSpecial, IsHeldAt}
 use Rattle.reach.specs.Ranges.{IsInOne}
 use Rattle.policy.specs.declared.rule.Rule.{Rule}
+use Rattle.policy.specs.declared.guard.Standing.{Standing}
+use Rattle.policy.specs.declared.guard.Standing.TheVariants.{Open, Certain, Guarded}
 use Rattle.policy.specs.declared.in_force.InForce.{InForce}
 use Rattle.policy.specs.declared.watcher.Watcher.{Watcher}
 use Rattle.policy.specs.Terms.{Terms, terms_of}
 use Rattle.policy.specs.Cover.{ShareNone}
 use Rattle.policy.specs.Rule.{BreaksRule}
-use Rattle.policy.specs.Watch.{Applies, Holds}
+use Rattle.policy.specs.Watch.{Applies, Holds, HoldEach, fetched_at}
 
 -- ---- rules that hold
 
@@ -75,6 +78,36 @@ StaysAway at guard rule = Applied at rule ⊎ ShareNone rule.code guard.execute
 abbrev pub OutOfReach : Option ℕ → Terms → Terms → Type 0
 OutOfReach at guard rule = Applied at rule ⊎ ShareNone rule.load guard.store
 
+-- a guard at an address: a lasting rule that applies there, under which code comes to no other rule's
+pub record IsGuarded (rules : List Terms) (at : Option ℕ) : Type 0 where
+  pub guard : Terms
+  pub there : Contains rules guard
+  pub applied : Applied at guard
+  pub away : (rule : Terms) → Contains rules rule → StaysAway at guard rule
+
+-- a lasting rule that applies at an address, out of whose reach the rule at a place is
+pub record IsSpared (rules : List Terms) (at : Option ℕ) (k : ℕ) : Type 0 where
+  pub guard : Terms
+  pub there : Contains rules guard
+  pub applied : Applied at guard
+  pub out : HoldsAt (OutOfReach at guard) rules k
+
+-- the rules that are still marked were, and are out of such a rule's reach
+abbrev pub Spares : List Terms → Option ℕ → List Bool → List Bool → Type 0
+Spares rules at certified now =
+    (k : ℕ) → k < length rules → slice_index_or now k false ≡ true → (slice_index_or certified k false ≡ true) × IsSpared rules at k
+
+-- a rule guards the code
+abbrev pub is_guarded : Standing → Bool
+is_guarded Guarded = true
+is_guarded other = false
+
+-- what a standing says of a state
+abbrev pub Stands : Standing → List Terms → Option ℕ → State → Type 0
+Stands Open rules known s = ⊤
+Stands Certain rules known s = HoldEach rules s
+Stands Guarded rules known s = HoldEach rules s × (known ≡ fetched_at s) × IsGuarded rules known
+
 -- ---- all of it
 
 -- rules in force: as they are said, and as they are now
@@ -97,9 +130,17 @@ said_to w = said_by w.force
 abbrev pub rules_of : Watcher → List Terms
 rules_of w = forced_by w.force
 
--- what a watcher holds is true of the state
-pub record Knows (w : Watcher) (s : State) : Type 0 where
-  pub paired : IsPaired w.force
+-- a rule in force for each that is said, and a mark for each
+abbrev pub IsWhole : Watcher → Type 0
+IsWhole w = IsPaired w.force × (length w.certified.items ≡ length (held_by w.force))
+
+-- what a watcher remembers is true of the state
+pub record Remembers (w : Watcher) (s : State) : Type 0 where
   pub known : AreKnown (rules_of w) w.known s
-  pub count : length w.certified.items ≡ length (held_by w.force)
   pub certified : AreCertified (rules_of w) w.certified.items s.memory
+
+-- and so is what its last look found
+pub record Knows (w : Watcher) (s : State) : Type 0 where
+  pub state : IsState s
+  pub remembers : Remembers w s
+  pub stands : Stands w.standing (rules_of w) w.known s

@@ -113,17 +113,17 @@ fn start_keeps<C: CapRep>(hart: &Hart<C>, rule: &Rule) -> bool
 
 /// Whether a rule has a certificate, perhaps already.
 fn has_certificate<C: CapRep>(hart: &Hart<C>, rule: &Rule, certified: bool) -> bool
-    requires { certified ≡ true → IsCertified (terms rule.now) hart.now.memory }
-    ensures { IsTrue result → IsCertified (terms rule.now) hart.now.memory }
+    ensures { (certified ≡ true → IsCertified (terms rule.now) hart.now.memory) → IsTrue result
+        → IsCertified (terms rule.now) hart.now.memory }
 {
     certified || certifies::<C>(hart.memory(), rule)
 }
 
 /// Whether a rule holds by a certificate, which it may have already.
 pub(crate) fn is_certain<C: CapRep>(hart: &Hart<C>, rule: &Rule, certified: bool) -> bool
-    requires { certified ≡ true → IsCertified (terms rule.now) hart.now.memory }
-    ensures certified { IsTrue result → IsCertified (terms rule.now) hart.now.memory }
-    ensures holds { IsTrue result → Holds (terms rule.now) hart.now }
+    ensures certified { (certified ≡ true → IsCertified (terms rule.now) hart.now.memory) → IsTrue result
+        → IsCertified (terms rule.now) hart.now.memory }
+    ensures holds { (certified ≡ true → IsCertified (terms rule.now) hart.now.memory) → IsTrue result → Holds (terms rule.now) hart.now }
 {
     hart.is_state();
     start_keeps(hart, rule) && has_certificate(hart, rule, certified)

@@ -52,6 +52,7 @@ pub fn run_watched<C: CapRep>(
 {
     out.reserve(events.len())?;
     let mut watcher = Watcher::new(alloc, rules)?;
+    watcher.look(machine);
     let mut done = 0;
     for event in events {
         if let Some(refused) = watcher.refusal(alloc, machine)? {

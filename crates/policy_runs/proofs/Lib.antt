@@ -1,2 +1,2 @@
-mod Parts
-mod Found
+mod Guarded
+mod Placed

@@ -1,36 +1,37 @@
--- What the parts of a search for the first breach answer. No definition of a run needs this.
-use Rattle.std.specs.Prelude.{◌≡◌, ℕ, ◌-◌, ◌≤◌, false, List, ◌++◌, replicate}
+-- What the watch of a search for the first breach remembers of the events that it was told of. No definition of a run needs this.
+use Rattle.std.specs.Prelude.{◌≡◌, ◌≤◌, Bool, true, false, List, length, None}
 use Rattle.steps.specs.declared.event.Event.{Event}
-use Rattle.steps.specs.declared.event.Event.TheVariants.{Step}
 use Rattle.steps.specs.State.{State}
 use Rattle.machine.specs.Run.{run_after}
-use Rattle.policy.specs.Terms.{Terms}
+use Rattle.policy.specs.declared.watcher.Watcher.{Watcher}
+use Rattle.policy.specs.Known.{Knows, rules_of, said_to}
 use Rattle.policy.specs.Watch.{IsRefused}
 use Rattle.policy.specs.Lending.{in_force_from}
-use Rattle.schedules.specs.Schedule.{is_halted, up_to_halt}
-use Rattle.policy_runs.specs.declared.breach.Breach.{Breach}
+use Rattle.schedules.specs.declared.pace.Pace.{Pace}
+use Rattle.schedules.specs.declared.pace.Speed.TheVariants.{Each, Short}
+use Rattle.policy_runs.specs.declared.keeper.Bar.{Bar}
+use Rattle.policy_runs.specs.declared.keeper.Bar.TheVariants.{Broken, Memory}
 use Rattle.policy_runs.specs.Keeping.{StepsKeepFrom}
 
--- the machine met the events, up to the one that halts it, each step among them kept to the rules in force, and others are in force now
-pub record Kept (said now next : List Terms) (events : List Event) (s later : State) : Type 0 where
-  pub state : later ≡ run_after (up_to_halt events s) s
-  pub keep : StepsKeepFrom said now (up_to_halt events s) s
-  pub force : next ≡ in_force_from said now (up_to_halt events s) s
+-- under a guard steps go at once, as long as they are plain
+abbrev pub pace_at : Bool → Pace
+pace_at true = record { speed = Short None; most = 18446744073709551615 }
+pace_at false = record { speed = Each; most = 18446744073709551615 }
 
--- The machine stands before the step of a number, one of so many that come after other events, and each step before it kept to the rules
--- in force.
-pub record StandsPast (said now : List Terms) (before : List Event) (count : ℕ) (s later : State) (number : ℕ) : Type 0 where
-  pub next : List Terms
-  pub some : 1 ≤ number
-  pub few : number ≤ count
-  pub kept : Kept said now next (before ++ replicate (number - 1) Step) s later
-  pub running : is_halted later ≡ false
+-- each step among the events kept to the rules in force, the other watcher holds those in force after them, and so much is true of it and
+-- of the state then
+pub record HasKept (Truth : Watcher → State → Type 0) (events : List Event) (s : State) (v w : Watcher) : Type 0 where
+  pub keep : StepsKeepFrom (said_to v) (rules_of v) events s
+  pub force : rules_of w ≡ in_force_from (said_to v) (rules_of v) events s
+  pub truth : Truth w (run_after events s)
 
--- a breach there
-pub record IsBreachPast (said now : List Terms) (before : List Event) (count : ℕ) (s later : State) (x : Breach) : Type 0 where
-  pub stands : StandsPast said now before count s later x.number
-  pub refused : IsRefused stands.next x.refused later
+-- from one watcher to the other, if the one knew the state before
+abbrev pub Kept : (Watcher → State → Type 0) → List Event → State → Watcher → Watcher → Type 0
+Kept Truth events s v w = (said_to w ≡ said_to v) × (Knows v s → HasKept Truth events s v w)
 
--- one of these steps, before which there was no memory to go on
-abbrev pub StandsMidway : List Terms → List Terms → List Event → ℕ → State → State → Type 0
-StandsMidway said now before count s later = (number : ℕ) × StandsPast said now before count s later number
+-- why the step after the events is not done
+abbrev pub IsBarred : Bar → List Event → State → Watcher → Type 0
+IsBarred (Broken refused) events s v =
+    Knows v s → StepsKeepFrom (said_to v) (rules_of v) events s
+    × IsRefused (in_force_from (said_to v) (rules_of v) events s) refused (run_after events s)
+IsBarred Memory events s v = (1 ≤ length (said_to v)) × (Knows v s → StepsKeepFrom (said_to v) (rules_of v) events s)

@@ -2,3 +2,4 @@
 pub mod Keeping
 -- Inner words
 pub mod Kept
+pub mod KeptLaws

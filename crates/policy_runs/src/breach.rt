@@ -10,11 +10,11 @@ ghost use Rattle.schedules.specs.Schedule.{events_before};
 ghost use Rattle.schedules.specs.Schedule.{IsPlaceOf};
 ghost use Rattle.policy_runs.specs.Keeping.{LeavesMidway, StepsKeepToEach};
 
-use crate::block::keep_block;
+use crate::keeper::{Bar, Keeper};
 use cap_bounds::CapRep;
 use machine::Machine;
 use policy::{Refused, Rule, Watcher};
-use schedules::{Count, Progress, Schedule};
+use schedules::{How, Progress, Schedule, Walking, walk_told};
 use std::alloc::{AllocError, Global};
 
 /// Where rules stop a run: before which step, and why.
@@ -62,29 +62,21 @@ pub fn find_breach<C: CapRep, P: Progress>(
     ensures room { OnErr result (1 ≤ length rules.now) }
 {
     let mut watcher = Watcher::new(alloc, rules)?;
-    let mut counted = Count::new(progress);
-    let mut done = 0;
-    while done < schedule.steps {
-        let byte = schedule.byte_before(input, done + 1);
-        let count = schedule.steps_alone(input, done);
-        let ticks = schedule.is_tick_after(done + count);
-        if let Some(breach) = keep_block(
-            alloc,
-            &mut watcher,
-            machine,
-            byte,
-            count,
-            ticks,
-            &mut counted,
-        )? {
-            let number = done + breach.number;
-            let refused = breach.refused;
-            return Ok(Some(Breach { number, refused }));
-        }
-        if machine.halted().is_some() {
-            return Ok(None);
-        }
-        done += count;
+    watcher.look(machine);
+    let mut keeper = Keeper { alloc, watcher };
+    let Walking { how, steps } = walk_told(machine, schedule, input, &mut keeper, progress);
+    match how {
+        How::Done | How::Halted => Ok(None),
+        How::Barred(bar) => match bar {
+            Bar::Broken(refused) => {
+                let number = steps + 1;
+                Ok(Some(Breach { number, refused }))
+            }
+            Bar::Memory => Err(AllocError),
+        },
+        // Nothing stops that watch.
+        How::Stopped => unreachable!(),
+        // Memory is taken before a step.
+        How::Failed(_) => unreachable!(),
     }
-    Ok(None)
 }

@@ -63,7 +63,7 @@ class Writes(unittest.TestCase):
 
     def test_what_differs_was_written_and_a_tag_is_there_where_its_conditions_hold(self):
         ways = set()
-        for text, (before, after, writes, line) in self.events():
+        for text, (before, after, writes, line, _) in self.events():
             granules = {(GRANULE, RAM + at) for at in range(0, len(after.ram), 16)
                         if before.ram[at:at + 16] != after.ram[at:at + 16] or (RAM + at in before.tags) != (RAM + at in after.tags)}
             changed = {place for place in self.PLACES if held(before, place) != held(after, place)} | granules

@@ -54,6 +54,20 @@ class Chains(unittest.TestCase):
             self.assertEqual(origin(self.events, self.opening, place), [
                 f"{kind} v:0 a:{0:016x} b:{0:016x} t:{SPACE:017x} p:00000 f:0 o:3ffff"])
 
+    def test_of_more_than_three_links_that_are_alike_those_between_are_counted(self):
+        """A capability moves on: at one instruction, elsewhere once, and at the first again."""
+        states = [state({10: (root(0)[0], 16 * n, True)}) for n in range(12)]
+        lines = 5 * ["move: on"] + ["other: on"] + 5 * ["move: on"]
+        events = [Event(before, after, {A0: Making("moved", A0, number=0)}, line) for before, after, line in zip(states, states[1:], lines)]
+        for count in range(1, 4):
+            self.assertEqual(origin(events[:count], states[0], A0)[:-1],
+                             [f"ca0 from ca0: {number} move: on" for number in range(count, 0, -1)])
+        self.assertEqual(origin(events[:4], states[0], A0)[:-1],
+                         ["ca0 from ca0: 4 move: on", "ca0 from ca0, 2 times: move", "ca0 from ca0: 1 move: on"])
+        self.assertEqual(origin(events, states[0], A0)[:-1], [
+            "ca0 from ca0: 11 move: on", "ca0 from ca0, 3 times: move", "ca0 from ca0: 7 move: on", "ca0 from ca0: 6 other: on",
+            "ca0 from ca0: 5 move: on", "ca0 from ca0, 3 times: move", "ca0 from ca0: 1 move: on"])
+
     def test_a_tag_is_lost_where_the_address_leaves_the_window(self):
         self.assertEqual(lost(self.events, AT), [
             f"{RAM:016x}{LABEL} from ca1: 5 step 5", "  no tag of ca1", "ca1 from ca1, tag cut: 4 step 4", "  ok tag of ca1",

@@ -6,6 +6,6 @@ use Rattle.origin_texts.proofs.link.source_text.Goals as goal
 pub held-requires : goal.held-requires
 held-requires g c = (
   search rules,
-  stays-as c.args.machine.now c.apply.new.self Step c.args.place c.held-before.ensures.state c.requires.there
-      c.apply.ensures.state,
+  stays-as c.args.machine.now c.apply-2.new.self Step c.args.place c.held-before.ensures.state c.requires.there
+      c.apply-2.ensures.state,
 )

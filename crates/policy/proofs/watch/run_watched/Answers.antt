@@ -55,20 +55,18 @@ loop-event-init g c =
       done = refl;
       run = run-none events s c.args.out.now.items _ c.reserve.ensures.items;
       kept = kept-none (terms_of c.args.rules.now) events s;
-      said = c.in_ok-watcher.ensures.said;
-      rules = c.in_ok-watcher.ensures.rules;
-      knows = c.in_ok-watcher.ensures.knows s;
+      said = c.look.ensures.said ∙ c.in_ok-watcher.ensures.said;
+      rules = c.look.ensures.rules ∙ c.in_ok-watcher.ensures.rules;
+      whole = c.look.ensures.whole;
+      knows = c.look.ensures.knows (c.in_ok-watcher.ensures.remembers s);
       room = search rules;
     }
 
 pub meet-requires : goal.meet-requires
 meet-requires g c =
-    let t = c.loop-event.machine in (
+    let l = c.loop-event in (
       search rules,
-      (
-        c.in_ok-refused.ensures.knows,
-        subst (λ xs. HoldEach xs t) (sym c.in_ok-refused.ensures.rules) (rw c.in_default.is at c.in_ok-refused.ensures.holds),
-      ),
+      (l.invariant.whole, (l.invariant.knows, rw c.in_default.is at (c.in_ok-refused.ensures.holds l.invariant.knows))),
     )
 
 pub loop-event-preserved : goal.loop-event-preserved
@@ -84,17 +82,17 @@ loop-event-preserved g c =
     let next = c.meet.new.machine in
     let now = in_force said (take i events) s in
     let hold : HoldEach now t =
-    subst (λ xs. HoldEach xs t) l.invariant.rules (rw c.in_default.is at c.in_ok-refused.ensures.holds) in
-    let met_said : said_to c.refusal.new.self ≡ said = c.in_ok-refused.ensures.said ∙ l.invariant.said in
-    let met_rules : rules_of c.refusal.new.self ≡ now = c.in_ok-refused.ensures.rules ∙ l.invariant.rules in
+    subst (λ xs. HoldEach xs t) l.invariant.rules (rw c.in_default.is at (c.in_ok-refused.ensures.holds l.invariant.knows)) in
     record {
       done = ap (λ n. n + 1) l.invariant.done;
       run = run-more events i _ below s t c.args.out.now.items l.out.items l.invariant.run next c.emit.new.out.items met.state
           (c.emit.ensures.items ∙ ap (λ b. l.out.items ++ option_to_list b) met.byte);
-      kept = kept-more said events i s t l.invariant.run.state (λ e. keeps-to-each now e t met.was_state hold) l.invariant.kept;
-      said = met.said ∙ met_said;
-      rules = met.rules ∙ forced-more said events i _ below s t l.invariant.run.state (said_to c.refusal.new.self)
-          (rules_of c.refusal.new.self) met_said met_rules;
+      kept = kept-more said events i s t l.invariant.run.state (λ e. keeps-to-each now e t l.invariant.knows.state hold)
+          l.invariant.kept;
+      said = met.said ∙ l.invariant.said;
+      rules = met.rules ∙ forced-more said events i _ below s t l.invariant.run.state (said_to l.watcher) (rules_of l.watcher)
+          l.invariant.said l.invariant.rules;
+      whole = met.whole;
       knows = met.knows;
       room = omega (arith, c.emit.ensures.len, c.emit.ensures.room, l.invariant.room);
     }

@@ -7,8 +7,8 @@ use Rattle.policy.proofs.watcher.each_is_certain.Given as goal
 
 abbrev pub invariant-loop-place : goal.invariant-loop-place
 invariant-loop-place g l = record {
-  certified : AreCertified (terms_of l.rules) l.certified l.hart.memory;
+  certified : AreCertified (terms_of l.rules) l.fn.certified l.hart.memory → AreCertified (terms_of l.rules) l.certified l.hart.memory;
   holds :
-      (k : ℕ) → k < l.place
+      AreCertified (terms_of l.rules) l.fn.certified l.hart.memory → (k : ℕ) → k < l.place
       → HoldsAt (λ rule. Applies rule l.at → Applied l.known rule ⊎ Holds rule l.hart) (terms_of l.rules) k;
 }
