@@ -35,6 +35,7 @@ OTHERS = ("./cherisim asm --symbols=labels.sym examples/list.s list.img", "./che
           "./cherisim audit list.img 30 --policy low.policy --symbols labels.sym", "./cherisim audit list.img 30",
           "./cherisim run examples/none.img 5", "./cherisim go examples/list.s --steps 30 --trace go.trace",
           "./cherisim run --profile=run.profile list.img 30 --quiet", "./cherisim go examples/list.s --steps 30 --profile go.profile",
+          "./cherisim run --calls=run.calls list.img 30 --quiet", "./cherisim go examples/list.s --steps 30 --calls go.calls",
           "./cherisim asm examples/list.s list.img --lines list.lines", "./cherisim run --lines=list.lines list.img 30 --why=all",
           "./cherisim prove list.img --policy low.policy --symbols labels.sym --lines list.lines")
 
@@ -42,7 +43,8 @@ OTHERS = ("./cherisim asm --symbols=labels.sym examples/list.s list.img", "./che
 MISTAKES = ("./cherisim go none.s", "./cherisim go list.img --stepz 3", "./cherisim rnu list.img 30", "./cherisim run list.img 30 --tock 3", "./cherisim dis none.img --header",
             "./cherisim run list.img 30 --policy none.policy", "./cherisim debug --symbols=none.sym list.img",
             "./cherisim prove list.img --policy none.policy", "./cherisim prove list.img --tick 3",
-            "./cherisim audit list.img 30 --profile p", "./cherisim run list.img 30 --lines none.lines")
+            "./cherisim audit list.img 30 --profile p", "./cherisim audit list.img 30 --calls c",
+            "./cherisim run list.img 30 --lines none.lines")
 
 # The command that is called with `rt` itself.
 WHOLE = "./cherisim asm examples/bounds.s whole.img --symbols whole.sym"

@@ -273,6 +273,61 @@ cherisim_status cherisim_prove(cherisim_t *machine, const uint8_t *policy, size_
                                const uint8_t *labels, size_t labels_length, uint64_t steps,
                                bool *shown, uint8_t *text, size_t room, size_t *length, uint64_t *line);
 
+/* ---- the past: a machine's history is the bytes of its image's file and what it was given since; C keeps both, and may write them to a
+ * file. What is written between two events (cherisim_set_reg, .. _write_cap) is no event: no past tells of it.
+ *
+ * Each call does the history anew on a machine of its own. It answers the status of the image, as cherisim_new, and CHERISIM_RANGE where
+ * a kind is none of these or a byte is above 255, where more than 2^64 - 1 events were given, and as it says itself. */
+
+/* What was given. */
+enum {
+    CHERISIM_GAVE_STEPS = 0, /* `number` steps, of a run or one at a time */
+    CHERISIM_GAVE_TICKS = 1, /* `number` ticks: of a run with `tick` one between its steps, so that it is noted part by part */
+    CHERISIM_GAVE_BYTE = 2   /* the byte `number` */
+};
+typedef struct { uint64_t number; uint32_t kind; } cherisim_given_t;
+/* The image file of a text in the assembly language: *length bytes at the beginning of `image`. Where the buffer is too short,
+ * CHERISIM_FULL, and *length is what it takes. Of a faulty text what cherisim_assemble says. */
+cherisim_status cherisim_image(const uint8_t *text, size_t text_length, uint8_t *image, size_t room, size_t *length, uint64_t *line);
+/* The machine as it stood before the last `events` of a past, each step, tick and byte counted for one, into the handle. CHERISIM_RANGE
+ * where there were fewer. */
+cherisim_status cherisim_back(const uint8_t *image, size_t length, const cherisim_given_t *given, size_t count, uint64_t events,
+                              cherisim_t *machine);
+
+/* A place, by its kind among those where members are found: general register `number`, 0 to 31; special register `number`, as
+ * cherisim_scr has it; the granule at the address `number`. CHERISIM_RANGE where the machine has none. */
+typedef struct { uint64_t number; uint32_t kind; } cherisim_place_t;
+/* Steps while a place of a machine holds what it holds, tag and all, which is looked at before each: so many at most, and up to one that
+ * sends a byte or halts the machine. No tick comes between them. */
+cherisim_status cherisim_step_while_held(cherisim_t *machine, uint64_t most, const cherisim_place_t *place, cherisim_stepped_t *stepped);
+/* How what a place holds at the end of a past came to be, as the debugger's command `origin` shows it, with the labels of a table as
+ * cherisim_trace takes them: *text_length bytes of text, no 0 after them. Where the buffer is too short, CHERISIM_FULL, and *text_length is
+ * what it takes. CHERISIM_LABELS where line *line of the table is no label's; where there is no memory for it *line is 0. */
+cherisim_status cherisim_origin(const uint8_t *image, size_t length, const cherisim_given_t *given, size_t count,
+                                const cherisim_place_t *place, const uint8_t *labels, size_t labels_length,
+                                uint8_t *text, size_t room, size_t *text_length, uint64_t *line);
+/* Where the tag of a place went, and why, as the debugger's command `lost` shows it. */
+cherisim_status cherisim_lost(const uint8_t *image, size_t length, const cherisim_given_t *given, size_t count,
+                              const cherisim_place_t *place, const uint8_t *labels, size_t labels_length,
+                              uint8_t *text, size_t room, size_t *text_length, uint64_t *line);
+/* A link: what a place held after the step that wrote it, how many events were before that step, and PCC's address then; and the place
+ * that the value was made of, if `has_source`. With `written` false no step wrote it, and the opening state has the value. */
+typedef struct {
+    cherisim_cap_t value;
+    uint64_t before, pc;
+    cherisim_place_t place, source;
+    bool has_source, written;
+} cherisim_link_t;
+/* How what a place holds came to be, as links, the newest first, *count of them at the beginning of `links`: as many as there are, or as
+ * there is room for. Each goes over the past once. */
+cherisim_status cherisim_origin_links(const uint8_t *image, size_t length, const cherisim_given_t *given, size_t given_count,
+                                      const cherisim_place_t *place, cherisim_link_t *links, size_t room, size_t *count);
+/* Where the tag of what a place holds went, in the same way: the links down to the first whose source had its tag, none where no tag went.
+ * Where they end in data, the event at which data overwrote a tag; or, where the bits of a tagged capability were copied as two double
+ * words, their stores, the lower one first, each with the granule that it was loaded from. */
+cherisim_status cherisim_lost_links(const uint8_t *image, size_t length, const cherisim_given_t *given, size_t given_count,
+                                    const cherisim_place_t *place, cherisim_link_t *links, size_t room, size_t *count);
+
 #ifdef __cplusplus
 }
 #endif

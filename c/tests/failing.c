@@ -127,6 +127,50 @@ static cherisim_status call_trace(cherisim_t *m) {
     return status;
 }
 
+static const cherisim_given_t given[] = {{3, CHERISIM_GAVE_STEPS}, {'x', CHERISIM_GAVE_BYTE}, {2, CHERISIM_GAVE_TICKS}};
+static const cherisim_place_t pcc = {PCC, CHERISIM_IN_SPECIAL};
+static cherisim_status call_image(cherisim_t *m) {
+    uint8_t made[1024] = {0xee};
+    size_t length = 99;
+    uint64_t line = 99;
+    cherisim_status status = cherisim_image((const uint8_t *)text, strlen(text), made, sizeof made, &length, &line);
+    ROW(status ? length == 99 && made[0] == 0xee && line == 0 : length > 99 && made[0] == 'C' && line == 99);
+    return m ? status : 99;
+}
+static cherisim_status call_back(cherisim_t *m) { return cherisim_back(image, sizeof image - 1, given, COUNT_OF(given), 4, m); }
+static cherisim_status call_origin(cherisim_t *m) {
+    uint8_t told[1024] = {0xee};
+    size_t length = 99;
+    uint64_t line = 0;
+    cherisim_status status = cherisim_origin(image, sizeof image - 1, given, COUNT_OF(given), &pcc, (const uint8_t *)labels, strlen(labels),
+                                             told, sizeof told, &length, &line);
+    ROW(status ? length == 99 && told[0] == 0xee && line == 0 : length > 99 && memcmp(told, "pcc from mtcc", 13) == 0);
+    return m ? status : 99;
+}
+static cherisim_status call_lost(cherisim_t *m) {
+    uint8_t told[1024] = {0xee};
+    size_t length = 99;
+    uint64_t line = 0;
+    cherisim_status status = cherisim_lost(image, sizeof image - 1, given, COUNT_OF(given), &pcc, (const uint8_t *)labels, strlen(labels),
+                                           told, sizeof told, &length, &line);
+    ROW(status ? length == 99 && told[0] == 0xee && line == 0 : length > 9 && length < sizeof told);
+    return m ? status : 99;
+}
+static cherisim_status call_links(cherisim_t *m) {
+    cherisim_link_t links[4] = {{.before = 99}};
+    size_t count = 99;
+    cherisim_status status = cherisim_origin_links(image, sizeof image - 1, given, COUNT_OF(given), &pcc, links, COUNT_OF(links), &count);
+    ROW(status ? links[0].before == 99 && count == 99 : links[0].before < 3 && count < 5);
+    return m ? status : 99;
+}
+static cherisim_status call_lost_links(cherisim_t *m) {
+    cherisim_link_t links[4] = {{.before = 99}};
+    size_t count = 99;
+    cherisim_status status = cherisim_lost_links(image, sizeof image - 1, given, COUNT_OF(given), &pcc, links, COUNT_OF(links), &count);
+    ROW(links[0].before == 99 && count == (status ? 99 : 0));
+    return m ? status : 99;
+}
+
 /* each allocation of the call fails in turn, into a handle with a machine or without one */
 static void each_fails(const char *name, cherisim_status (*call)(cherisim_t *), bool has_machine) {
     cherisim_t m = CHERISIM_NONE, before = CHERISIM_NONE;
@@ -186,7 +230,9 @@ int main(void) {
         {"new", call_new, true}, {"new_flat", call_new_flat, true}, {"assemble", call_assemble, true}, {"copy", call_copy, true},
         {"why", call_why, false}, {"reach", call_reach, false}, {"may_store", call_may, false},
         {"reach_through_doors", call_through_doors, false}, {"doors", call_doors, false}, {"may", call_may_through_doors, false},
-        {"watch", call_watch, false}, {"audit", call_audit, false}, {"prove", call_prove, false}, {"trace", call_trace, false}};
+        {"watch", call_watch, false}, {"audit", call_audit, false}, {"prove", call_prove, false}, {"trace", call_trace, false},
+        {"image", call_image, false}, {"back", call_back, true}, {"origin", call_origin, false}, {"lost", call_lost, false},
+        {"origin_links", call_links, false}, {"lost_links", call_lost_links, false}};
     for (size_t i = 0; i < COUNT_OF(calls); i += 1) {
         if (calls[i].makes) each_fails(calls[i].name, calls[i].call, false);
         each_fails(calls[i].name, calls[i].call, true);

@@ -22,8 +22,8 @@ from typing import Any, Collection, Iterator, List, NamedTuple, Optional, Sequen
 
 from . import _library as c
 from ._caps import Cap, Insn, Perms, decode, disassemble, encode, execute
-from ._faults import (CherisimError, Closed, ImageFault, OutOfMemory, OutOfRange, PolicyFault, SymbolsFault, TextFault, WrongThread,
-                      in_range, refusal)
+from ._faults import (CherisimError, Closed, ImageFault, OutOfMemory, OutOfRange, Pastless, PolicyFault, Remembered, SymbolsFault,
+                      TextFault, WrongThread, in_range, refusal)
 from ._html import machine_html
 from ._library import NULL_UPPER, SENTRY, UNSEALED, lib
 from ._names import _SHOWN, CSRS, PAGE, RAM, REGISTERS, SCRS
@@ -34,10 +34,10 @@ from ._views import Memory, Registers, SpecialRegisters, StatusRegisters, _value
 
 __version__ = "0.1.0"
 __all__ = ["Answer", "Breach", "CSRS", "Call", "Cap", "CherisimError", "Closed", "Console", "Door", "ImageFault", "Insn", "Link", "Machine",
-           "Memory", "NULL_UPPER", "OutOfMemory", "OutOfRange", "PAGE", "Perms", "Policy", "PolicyFault", "Proof", "RAM", "REGISTERS",
-           "Ran", "Reach", "ReachMember", "Registers", "Replay", "SCRS", "SENTRY", "Schedule", "SpecialRegisters", "StatusRegisters",
-           "Stop", "Symbols", "SymbolsFault", "TextFault", "Timer", "UNSEALED", "Watched", "WrongThread", "decode", "disassemble", "encode",
-           "execute"]
+           "Memory", "NULL_UPPER", "OutOfMemory", "OutOfRange", "PAGE", "Pastless", "Perms", "Policy", "PolicyFault", "Proof", "RAM",
+           "REGISTERS", "Ran", "Reach", "ReachMember", "Registers", "Remembered", "Replay", "SCRS", "SENTRY", "Schedule",
+           "SpecialRegisters", "StatusRegisters", "Stop", "Symbols", "SymbolsFault", "TextFault", "Timer", "UNSEALED", "Watched",
+           "WrongThread", "decode", "disassemble", "encode", "execute"]
 
 _PLACES = ((*_SHOWN, *tuple(SCRS)[:2]), tuple(SCRS)[2:])  # where members are found: registers, and special registers
 _ROOM = {"sent": 65536, "text": 4096, "reach": 64}  # the room of a buffer, which a call may need more than once
@@ -114,6 +114,9 @@ class Machine(Questions):
 
     `symbols` is a table of labels, or its text; a machine of a text has those of the text. A label can stand where an address can.
 
+    With `past` it remembers what it is given: steps, ticks and bytes, each of them an event. Then `origin`, `lost` and `back` ask of them;
+    what writes to it between two events raises Remembered.
+
     Raises ImageFault, TextFault, SymbolsFault or OutOfMemory. It is freed with the object, or by close(), or after a `with`.
     """
 
@@ -123,17 +126,18 @@ class Machine(Questions):
     _at: Any
     _thread: int
     _symbols: Union[None, Symbols, bytes]
+    _past: Optional[Past]
 
     def __new__(cls, *_given: object, **_named: object) -> Machine:
         machine = super().__new__(cls)
         machine._handle = c.Handle()
         machine._at = pointer(machine._handle)
         machine._thread = get_ident()
-        machine.sent, machine._symbols = bytearray(), None
+        machine.sent, machine._symbols, machine._past = bytearray(), None, None
         return machine
 
     def __init__(self, image: Optional[bytes] = None, *, text: Union[str, bytes, None] = None,
-                 symbols: Union[None, Symbols, str] = None) -> None:
+                 symbols: Union[None, Symbols, str] = None, past: bool = False) -> None:
         if (image is None) == (text is None):
             raise TypeError("a machine is made of an image or of a text")
         self._symbols = Symbols.read(symbols) if isinstance(symbols, str) else symbols
@@ -147,6 +151,8 @@ class Machine(Questions):
             status = lib.cherisim_new(data, len(data), self._at)
         if status:
             raise refusal(status, "Machine", line.value)
+        if past:
+            self._past = Past(data if text is None else image_of(data))
 
     @classmethod
     def flat(cls, data: bytes, address: int = RAM, entry: Optional[int] = None, pages: int = 1, capability_mode: bool = False,
@@ -166,6 +172,7 @@ class Machine(Questions):
         other = type(self).__new__(type(self))
         self._do(lib.cherisim_copy, other._at)
         other.sent[:], other._symbols = self.sent, self._symbols
+        other._past = self._past and self._past.copy()
         return other
 
     __copy__ = copy
@@ -196,6 +203,8 @@ class Machine(Questions):
     def _do(self, call: Any, *given: Any) -> None:
         """A call of the library, whose first argument is the machine."""
         self._own()
+        if self._past is not None and call in WRITES:
+            raise Remembered(Remembered.__doc__)
         status = call(self._at, *given)
         if status:
             raise refusal(status, call.__name__)
@@ -208,6 +217,7 @@ class Machine(Questions):
             return self.run(n).sent
         sent = c.Sent()
         self._do(lib.cherisim_step, byref(sent))
+        self._note(STEPS, 1)
         if not sent.sends:
             return b""
         self.sent.append(sent.byte)
@@ -217,11 +227,13 @@ class Machine(Questions):
         """n ticks of the timer."""
         for _ in range(n):
             self._do(lib.cherisim_tick)
+            self._note(TICKS, 1)
 
     def receive(self, data: bytes) -> None:
         """Bytes come on the console's line, one after the other. 64 may wait; what comes while so many do is lost."""
         for byte in bytes(memoryview(data)):
             self._do(lib.cherisim_receive, byte)
+            self._note(BYTE, byte)
 
     def run(self, steps: int, until: Union[None, str, int, Collection[Stop]] = None, *, tick: int = 0, input: bytes = b"",
             gap: int = 1000) -> Ran:
@@ -256,6 +268,26 @@ class Machine(Questions):
             self.receive(bytes([byte]))
         done, stop = self._run_to(asked, done, steps, wanted)
         return Ran(done, bytes(self.sent[began:]), stop, self.halted)
+
+    def changed(self, where: Union[str, int], steps: int) -> Optional[int]:
+        """Steps while a register, a special register or a granule holds what it holds, tag and all: so many at most. Answers how many there
+        were up to the one that changed it, or None where none did."""
+        in_range("number of steps", steps, 64)
+        place, stepped, done, before = place_for(where, self.address_of), c.Stepped(), 0, self._held(where)
+        while True:
+            self._do(lib.cherisim_step_while_held, steps - done, byref(place), byref(stepped))
+            self._note(STEPS, stepped.steps)
+            done += stepped.steps
+            if stepped.sent.sends:
+                self.sent.append(stepped.sent.byte)
+            if self._held(where) != before:
+                return done
+            if not stepped.sent.sends:
+                return None
+
+    def _held(self, where: Union[str, int]) -> Cap:
+        """What a place holds: a register before a special register before a granule."""
+        return self.regs[where] if where in REGISTERS else self.scrs[where] if where in SCRS else self.cap_at(where)
 
     def run_turn(self, steps: int, *, tick: int = 0, input: bytes = b"", gap: int = 1000) -> Ran:
         """The same up to the first step that traps or unseals a capability: through sealed jumps, up to where answers with `doors` hold."""
@@ -346,6 +378,8 @@ class Machine(Questions):
         while True:
             asked.steps, asked.before = mark - done, done
             self._do(lib.cherisim_run, byref(asked), room, len(room), byref(ran))
+            if self._past is not None:
+                self._past.note_run(ran.steps, asked.tick, done, len(self.sent), lambda: self.halted is not None)
             self.sent += room[:ran.sent]
             done += ran.steps
             if ran.stop in _ENDS and ran.stop not in wanted:
@@ -354,6 +388,69 @@ class Machine(Questions):
                 asked.at_end = True
             elif ran.stop != _BUFFER:
                 return done, Stop(ran.stop)
+
+    # ---- what it was given, where it remembers
+
+    def _note(self, kind: int, number: int) -> None:
+        """Notes what was given."""
+        if self._past is not None:
+            self._past.note(kind, number, len(self.sent))
+
+    def _remembered(self) -> Past:
+        """What was given. Raises Pastless where that isn't remembered."""
+        self._own()
+        if self._past is None:
+            raise Pastless(Pastless.__doc__)
+        return self._past
+
+    @property
+    def events(self) -> int:
+        """How many events there were, as the debugger's `ago` counts them: steps, ticks and bytes."""
+        return self._remembered().events
+
+    def back(self, events: int = 1) -> None:
+        """Takes back the last events, with what they sent. Raises OutOfRange where there were fewer."""
+        past = self._remembered()
+        if not 0 <= events <= past.events:
+            raise OutOfRange(f"no {events} events back: there were {past.events}")
+        past.back(events, self._at)
+        sent, since = past.keep(past.events - events)
+        if len(self.sent) > sent and since:
+            other = type(self).__new__(type(self))
+            past.back(sum(1 if kind == BYTE else number for kind, number in since), other._at)
+            other._give(since)
+            sent += len(other.sent)
+        del self.sent[sent:]
+
+    def _give(self, given: Sequence[Tuple[int, int]]) -> None:
+        """Gives what was noted."""
+        for kind, number in given:
+            if kind == STEPS:
+                self._run_to(c.Asked(), 0, number)
+            elif kind == TICKS:
+                self.tick(number)
+            else:
+                self.receive(bytes([number]))
+
+    def origin(self, where: Union[str, int], most: Optional[int] = 64) -> List[Link]:
+        """What the value in a register, a special register or a granule was made of, the newest step first, down to a number or data, or to
+        the opening state. A step has its number among all events. So many links at most, or all where `most` is None: each goes over the
+        past once."""
+        return self._remembered().links(lib.cherisim_origin_links, place_for(where, self.address_of), most)
+
+    def lost(self, where: Union[str, int], most: Optional[int] = 64) -> List[Link]:
+        """Where the tag of what stands there went, the newest step first: down to the first whose source had its tag. Where the steps end in
+        data, the one that overwrote a tag; or, where double words were copied from a tagged capability, their stores, each with the granule
+        that it comes from. So many links at most, or all where `most` is None."""
+        return self._remembered().links(lib.cherisim_lost_links, place_for(where, self.address_of), most)
+
+    def origin_text(self, where: Union[str, int]) -> str:
+        """The same as the debugger's `origin` shows it, with the machine's labels."""
+        return self._remembered().text(lib.cherisim_origin, place_for(where, self.address_of), self.symbols.table())
+
+    def lost_text(self, where: Union[str, int]) -> str:
+        """Where the tag went, and why, as the debugger's `lost` shows it, with the machine's labels."""
+        return self._remembered().text(lib.cherisim_lost, place_for(where, self.address_of), self.symbols.table())
 
     # ---- what it holds
 
@@ -504,4 +601,5 @@ class Machine(Questions):
 
 from ._backtrace import Call  # which are made of this module
 from ._origins import Link
+from ._past import BYTE, STEPS, TICKS, WRITES, Past, image_of, place_for
 from ._replay import Replay, Schedule

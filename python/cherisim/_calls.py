@@ -82,12 +82,26 @@ class Breach(ctypes.Structure):
     _fields_ = [("step", c_uint64), ("line", c_uint64), ("member", c_uint64), ("part", c_uint32), ("found", c_bool)]
 
 
+class Given(ctypes.Structure):
+    _fields_ = [("number", c_uint64), ("kind", c_uint32)]
+
+
+class Place(ctypes.Structure):
+    _fields_ = [("number", c_uint64), ("kind", c_uint32)]
+
+
+class Link(ctypes.Structure):
+    _fields_ = [("value", Cap), ("before", c_uint64), ("pc", c_uint64), ("place", Place), ("source", Place), ("has_source", c_bool),
+                ("written", c_bool)]
+
+
 CONSTANTS: Dict[str, int] = {"OK": 0, "LABELS": 57, "NO_MEMORY": 64, "NO_MACHINE": 65, "RANGE": 66, "FULL": 67, "STEPS": 0, "HALTED": 1,
                              "BUFFER": 2, "ADDRESS": 3, "TRAP": 4, "UNSEAL": 5, "SEALED_JUMP": 6, "IN_REGISTER": 0, "IN_SPECIAL": 1,
                              "IN_MEMORY": 2, "MAY_STORE": 0, "MAY_LOAD": 1, "MAY_EXECUTE": 2, "MAY_LEARN": 3, "MAY_KEEP": 4,
                              "MAY_SEND": 5, "MAY_HALT": 6, "MAY_SYSTEM": 7, "MAY_TIMER": 8, "MAY_HOLD": 9, "RULE_STORE": 0,
                              "RULE_LOAD": 1, "RULE_EXECUTE": 2, "RULE_TRANSMIT": 3, "RULE_HALT": 4, "RULE_TIMER": 5, "RULE_SYSTEM": 6,
-                             "RULE_SEAL": 7, "RULE_TYPES": 8, "RULE_KEEP": 9, "RULE_ENTER": 10}
+                             "RULE_SEAL": 7, "RULE_TYPES": 8, "RULE_KEEP": 9, "RULE_ENTER": 10, "GAVE_STEPS": 0, "GAVE_TICKS": 1,
+                             "GAVE_BYTE": 2}
 CALLS: Dict[str, Tuple[Any, ...]] = {  # what each answers, and what it is given
     "cheri_cap": (Cap, Word, c_bool),
     "cheri_is_well_formed": (c_bool, Word),
@@ -161,4 +175,15 @@ CALLS: Dict[str, Tuple[Any, ...]] = {  # what each answers, and what it is given
                        c_char_p, c_size_t, POINTER(c_size_t), POINTER(c_uint64)),
     "cherisim_prove": (c_uint32, POINTER(Handle), c_char_p, c_size_t, c_char_p, c_size_t, c_uint64, POINTER(c_bool), c_char_p, c_size_t,
                        POINTER(c_size_t), POINTER(c_uint64)),
+    "cherisim_image": (c_uint32, c_char_p, c_size_t, c_char_p, c_size_t, POINTER(c_size_t), POINTER(c_uint64)),
+    "cherisim_back": (c_uint32, c_char_p, c_size_t, POINTER(Given), c_size_t, c_uint64, POINTER(Handle)),
+    "cherisim_step_while_held": (c_uint32, POINTER(Handle), c_uint64, POINTER(Place), POINTER(Stepped)),
+    "cherisim_origin": (c_uint32, c_char_p, c_size_t, POINTER(Given), c_size_t, POINTER(Place), c_char_p, c_size_t, c_char_p, c_size_t,
+                        POINTER(c_size_t), POINTER(c_uint64)),
+    "cherisim_lost": (c_uint32, c_char_p, c_size_t, POINTER(Given), c_size_t, POINTER(Place), c_char_p, c_size_t, c_char_p, c_size_t,
+                      POINTER(c_size_t), POINTER(c_uint64)),
+    "cherisim_origin_links": (c_uint32, c_char_p, c_size_t, POINTER(Given), c_size_t, POINTER(Place), POINTER(Link), c_size_t,
+                              POINTER(c_size_t)),
+    "cherisim_lost_links": (c_uint32, c_char_p, c_size_t, POINTER(Given), c_size_t, POINTER(Place), POINTER(Link), c_size_t,
+                            POINTER(c_size_t)),
 }

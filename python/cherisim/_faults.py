@@ -64,6 +64,14 @@ class WrongThread(CherisimError):
     """A machine is used by another thread than the one that made it."""
 
 
+class Remembered(CherisimError):
+    """A machine that remembers is written to between two events, of which no past could tell: it stays as it is."""
+
+
+class Pastless(CherisimError):
+    """The machine remembers nothing: it was not made with `past=True`."""
+
+
 _IMAGE_FAULTS = {
     1: "short header", 2: "magic", 3: "version", 4: "pages, entry or mode", 5: "too many sections", 6: "section outside RAM",
     7: "sections not ascending", 8: "truncated", 9: "bytes after the end", 10: "device failed", 11: "no memory", 12: "capability place",

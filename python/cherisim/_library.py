@@ -4,8 +4,8 @@ from __future__ import annotations
 import ctypes
 import os
 
-from ._calls import (CALLS, CONSTANTS, Answer, Asked, Breach, Cap, Console, Door, Fields, Halted, Handle, Insn, Member, Number, Question,
-                     Ran, Sent, Stepped, Timer, Timetable, Word)
+from ._calls import (CALLS, CONSTANTS, Answer, Asked, Breach, Cap, Console, Door, Fields, Given, Halted, Handle, Insn, Link, Member, Number,
+                     Place, Question, Ran, Sent, Stepped, Timer, Timetable, Word)
 
 UNSEALED, SENTRY = 0x3FFFF, 0x3FFFE
 """The object types of what is not sealed, and of a sentry."""

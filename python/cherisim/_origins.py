@@ -8,7 +8,7 @@ from bisect import bisect_left
 from ctypes import byref, c_uint32, create_string_buffer
 from functools import lru_cache
 from itertools import groupby
-from typing import TYPE_CHECKING, Callable, Dict, Iterator, List, NamedTuple, Optional, Tuple, TypeVar, Union
+from typing import TYPE_CHECKING, Callable, Dict, Iterator, List, NamedTuple, Optional, Sequence, Tuple, TypeVar, Union
 
 from . import RAM, REGISTERS, SCRS, SENTRY, Cap, Insn, Machine, Perms, Stop, Symbols, decode, disassemble
 from . import _library as c
@@ -180,25 +180,16 @@ def _of_register(name: str, insn: Insn, enters: bool, mode: bool) -> Making:
 _Rows = Dict[Place, List[Tuple[int, Optional[Place]]]]
 
 
-def _recorded(run: Replay, end: int, lost: bool) -> _Rows:
-    """The steps up to a number of them that wrote places, or that lost the tags there, each with the place to go on with."""
+def _recorded(run: Replay, end: int) -> _Rows:
+    """The steps up to a number of them that wrote places, each with the place that it made the value of."""
     rows: _Rows = {}
     coming = _Next(run.machine)
     while run.n < end:
         found = coming.makings()
-        tags = {place: _tags(run.machine, place, making.source) for place, making in found.items()} if lost else {}
         run.step()
         for place, making in found.items():
-            if not lost:
-                rows.setdefault(place, []).append((run.n, making.source))
-            elif any(tags[place]) and not held(run.machine, place).tag:
-                rows.setdefault(place, []).append((run.n, None if tags[place][1] else making.source))
+            rows.setdefault(place, []).append((run.n, making.source))
     return rows
-
-
-def _tags(machine: Machine, place: Place, source: Optional[Place]) -> Tuple[bool, bool]:
-    """Whether what a place and a source hold has its tag."""
-    return held(machine, place).tag, source is not None and held(machine, source).tag
 
 
 def _chain(rows: _Rows, place: Optional[Place], end: int) -> Tuple[List[Tuple[int, Place]], Optional[Place]]:
@@ -215,6 +206,31 @@ def _chain(rows: _Rows, place: Optional[Place], end: int) -> Tuple[List[Tuple[in
     return found, place
 
 
+def _windows(run: Replay, end: int) -> Iterator[Tuple[int, int]]:
+    """Stretches of the remembered steps up to a number of them, the last first."""
+    span = _SPAN
+    while end > run.begin:
+        begin = max(run.begin, end - span)
+        yield begin, end
+        end, span = begin, min(8 * span, _LONGEST)
+
+
+def _at(run: Replay, step: int, place: Place) -> Written:
+    """What a step wrote at a place."""
+    before, after = run.fork(step - 1).machine, run.fork(step).machine
+    return Written(step, place, _Next(before).makings()[place], before, after)
+
+
+def _last(run: Replay, place: Place, end: int, does: Callable[[Written], bool] = lambda it: True) -> Optional[Written]:
+    """The last of so many steps that wrote a place and does this."""
+    for begin, some in _windows(run, end):
+        for step, _ in reversed(_recorded(run.fork(begin), some).get(place, [])):
+            it = _at(run, step, place)
+            if does(it):
+                return it
+    return None
+
+
 def _looked_at(run: Replay, steps: List[Tuple[int, Place]]) -> Iterator[Written]:
     """Each of these steps, in ascending order."""
     for step, place in steps:
@@ -224,28 +240,129 @@ def _looked_at(run: Replay, steps: List[Tuple[int, Place]]) -> Iterator[Written]
         yield Written(step, place, _Next(before).makings()[place], before, run.machine)
 
 
-def trail(run: Replay, place: Place, lost: bool, tell: Callable[[Written], _T]) -> Tuple[List[_T], Optional[Place]]:
-    """What is told of the last step that wrote a place and then of the one that wrote its source, the newest first, and the place that no
-    remembered step wrote; or the same of steps at which tags were lost."""
+def trail(run: Replay, place: Place, tell: Callable[[Written], _T],
+          ends: Callable[[_T], bool] = lambda told: False) -> Tuple[List[_T], Optional[Place]]:
+    """What is told of the last step that wrote a place and then of the one that wrote its source, the newest first, up to one that ends
+    the trail, and the place that no remembered step wrote."""
     told: List[_T] = []
-    end, span, onward = run.n, _SPAN, place
-    while onward is not None and end > run.begin:
-        begin = max(run.begin, end - span)
-        found, onward = _chain(_recorded(run.fork(begin), end, lost), onward, end)
-        told += [*map(tell, _looked_at(run.fork(begin), found[::-1]))][::-1]
-        end, span = begin, min(8 * span, _LONGEST)
+    onward: Optional[Place] = place
+    for begin, end in _windows(run, run.n):
+        if onward is None:
+            break
+        found, onward = _chain(_recorded(run.fork(begin), end), onward, end)
+        for it in [*map(tell, _looked_at(run.fork(begin), found[::-1]))][::-1]:
+            told.append(it)
+            if ends(it):
+                return told, None
     return told, onward
 
 
-def links(run: Replay, where: Union[str, int], lost: bool) -> List[Link]:
-    """The steps of a trail, with what they left; of a place that no step wrote, what it held at first."""
-    def link(it: Written) -> Link:
-        return Link(it.step, it.before.pc, it.place, it.making.source, held(it.after, it.place))
+def _link(it: Written) -> Link:
+    """What a step left."""
+    return Link(it.step, it.before.pc, it.place, it.making.source, held(it.after, it.place))
 
-    found, onward = trail(run, place_of(where, run.machine), lost, link)
-    if onward is not None and not lost:
+
+def links(run: Replay, where: Union[str, int]) -> List[Link]:
+    """The steps of a trail, with what they left; of a place that no step wrote, what it held at first."""
+    found, onward = trail(run, place_of(where, run.machine), _link)
+    if onward is not None:
         found.append(Link(run.begin, None, onward, None, held(run.fork(run.begin).machine, onward)))
     return found
+
+
+# ---- where tags went
+
+_DOUBLE = 8
+
+
+class Half(NamedTuple):
+    """A double word that was copied: where from, where to, and its load and its store."""
+
+    source: int
+    target: int
+    load: Written
+    store: Written
+
+
+class Lost(NamedTuple):
+    """The steps down to the one at which a tag went, the newest first; or, where they end in data, those above it and the double words that
+    the bits of a tagged capability were copied in, the lower first."""
+
+    steps: List[Written]
+    copied: Sequence[Half] = ()
+
+
+def _had_tag(it: Written) -> bool:
+    """Whether the source of what a step wrote had its tag."""
+    return it.making.source is not None and held(it.before, it.making.source).tag
+
+
+def _lost_tag(it: Written) -> bool:
+    """Whether the tag went that a place or the source had."""
+    return (held(it.before, it.place).tag or _had_tag(it)) and not held(it.after, it.place).tag
+
+
+def _accessed(it: Written, name: str) -> Optional[Tuple[Insn, int]]:
+    """The instruction of a step that does a row of this name, and the address that it accesses."""
+    row = _Next(it.before).row()
+    if row is None or row[0] != name:
+        return None
+    insn = row[2]
+    return insn, (it.before.regs[_SHOWN[insn.rs1]].address + insn.imm) & _ALL
+
+
+def _half(run: Replay, store: Optional[Written]) -> Optional[Half]:
+    """The double word that a step stored of a register that a load had written last."""
+    stored = store and _accessed(store, "sd")
+    if not store or not stored or not stored[0].rs2:
+        return None
+    load = _last(run, _SHOWN[stored[0].rs2], store.step - 1)
+    loaded = load and _accessed(load, "ld")
+    return Half(loaded[1], stored[1], load, store) if load and loaded else None
+
+
+def _copied(run: Replay, store: Written, granule: int) -> Sequence[Half]:
+    """The double words of a granule that a step wrote last, the lower first, if they were loaded from a granule that held a tagged
+    capability of their bits at both loads."""
+    one, other = _half(run, _last(run, granule, store.step - 1)), _half(run, store)
+    if not one or not other:
+        return ()
+    lower, upper = sorted((one, other), key=lambda it: it.target)
+    if (lower.target, upper.target) != (granule, granule + _DOUBLE) or upper.source != lower.source + _DOUBLE or lower.source % _GRANULE:
+        return ()
+    value = held(store.after, granule)
+    for it in (lower, upper):
+        if lower.source not in it.load.before.tags() or held(it.load.before, lower.source).clear_tag() != value:
+            return ()
+    return lower, upper
+
+
+def losses(run: Replay, place: Place) -> Lost:
+    """Where the tag of what stands at a place went."""
+    if held(run.machine, place).tag:
+        return Lost([])
+
+    def kept(it: Written) -> Written:
+        return it._replace(after=it.after.copy())
+
+    steps, onward = trail(run, place, kept, _had_tag)
+    if not steps or _had_tag(steps[-1]):
+        return Lost(steps)
+    *above, store = steps
+    if onward is not None or not isinstance(store.place, int) or store.making.source is not None:
+        return Lost([])
+    copied = _copied(run, store, store.place)
+    if copied:
+        return Lost(above, copied)
+    overwriting = _last(run, store.place, store.step, _lost_tag)
+    return Lost([*above, overwriting] if overwriting else [])
+
+
+def lost_links(run: Replay, where: Union[str, int]) -> List[Link]:
+    """Those steps, with what they left; where double words were copied, their stores, each with the granule that it was loaded from."""
+    found = losses(run, place_of(where, run.machine))
+    copied = (_link(it.store)._replace(source=it.source // _GRANULE * _GRANULE) for it in found.copied)
+    return [*map(_link, found.steps), *copied]
 
 
 # ---- texts
@@ -283,7 +400,7 @@ class Told:
 
     def origin(self, place: Place) -> str:
         """What a place's value was made of."""
-        found, onward = trail(self._run, place, False, self._parts)
+        found, onward = trail(self._run, place, self._parts)
         told = [*_counted(found)]
         if onward is not None:
             kind = "image" if isinstance(onward, int) else "opening state"
@@ -292,8 +409,22 @@ class Told:
 
     def lost(self, place: Place) -> str:
         """Where a place's tag went."""
-        told, _ = trail(self._run, place, True, lambda it: self._line(it) + self._conditions(it))
-        return "".join(told) or f"no tag was lost at {self.name(place)}\n"
+        found = losses(self._run, place)
+        told = "".join(_counted([self._loss(it) for it in found.steps]))
+        if found.copied:
+            copy, source = found.copied[0].store.place, found.copied[0].source
+            told += f"{self.name(copy)} was copied as data from {self.name(source)}, a tagged capability then:\n"
+            told += "".join(self._trace_line(it) for half in found.copied for it in (half.load, half.store))
+        return told or f"no tag was lost at {self.name(place)}\n"
+
+    def _trace_line(self, it: Written) -> str:
+        """A step, as in a trace."""
+        return f"{it.before._trace_line(self._run.number(it.step), self._symbols)}\n"
+
+    def _loss(self, it: Written) -> _Line:
+        """A step that wrote a place, with the conditions of the tag."""
+        head, step, line = self._parts(it)
+        return head, step, line + self._conditions(it)
 
     def _parts(self, it: Written) -> _Line:
         """A step that wrote a place."""
@@ -302,10 +433,6 @@ class Told:
             text = self.name(it.making.source) + notes(held(it.before, it.making.source), held(it.after, it.place))
         head, line = f"{self.name(it.place)} from {text}", it.before._trace_line(self._run.number(it.step), self._symbols)
         return head, line.split(" ", 1)[1].partition(": ")[0], f"{head}: {line}\n"
-
-    def _line(self, it: Written) -> str:
-        """The same as a line."""
-        return self._parts(it)[2]
 
     def _conditions(self, it: Written) -> str:
         """The conditions of the tag up to the first that is false."""

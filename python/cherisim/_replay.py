@@ -9,7 +9,8 @@ from . import Machine, OutOfRange, Stop
 from . import _library as c
 from ._library import lib
 from ._backtrace import Call, open_calls
-from ._origins import Link, links
+from ._origins import Link, links, lost_links
+from ._past import STEPS
 
 _EVERY = 5_000_000  # steps between two states that are kept
 _KEPT, _BYTES = 32, 1 << 28  # states that are kept at most, and bytes of RAM in them: then every second one goes
@@ -146,11 +147,12 @@ class Replay:
     def origin(self, where: Union[str, int]) -> List[Link]:
         """What the value in a register, a special register or a granule was made of, as the debugger's `origin` shows it: the last step
         that wrote it, then the last before that wrote its source, up to a number or data, or to what no remembered step wrote."""
-        return links(self, where, lost=False)
+        return links(self, where)
 
     def lost(self, where: Union[str, int]) -> List[Link]:
-        """The steps at which the tag there went, and then that of its source, as the debugger's `lost` shows them."""
-        return links(self, where, lost=True)
+        """Where the tag of what stands there went, as the debugger's `lost` shows it: the steps down to the first whose source had its tag;
+        where they end in double words that were copied from a tagged capability, their stores, each with the granule that it comes from."""
+        return lost_links(self, where)
 
     def calls(self) -> List[Call]:
         """Who called whom and has not returned, as the debugger's `calls` shows it, the newest first."""
@@ -222,6 +224,7 @@ class Replay:
                 asked = self.n + span
             mark = min(end, asked, (self.n // tick + 1) * tick if tick else end)
             machine._do(lib.cherisim_step_while, mark - self.n, where[0], held, len(held), byref(stepped))
+            machine._note(STEPS, stepped.steps)
             if not stepped.steps:
                 return
             self.n += stepped.steps

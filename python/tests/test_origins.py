@@ -20,7 +20,7 @@ from trying.reading import unescaped
 
 STEPS = 250  # that are done of each program
 # Of examples the options of the debugger, and the same as a schedule.
-EXAMPLES = {"window": ((), Schedule()), "narrow": ((), Schedule()), "sealed": ((), Schedule()),
+EXAMPLES = {"window": ((), Schedule()), "copy": ((), Schedule()), "narrow": ((), Schedule()), "sealed": ((), Schedule()),
             "compartments": (("--tick", "7"), Schedule(tick=7)),
             "echo": (("--gap", "20", "--tick", "3"), Schedule(read("examples", "echo.in"), 20, 3))}
 RANDOM = 4  # how many random programs
@@ -112,10 +112,17 @@ class Values(unittest.TestCase):
     def test_lost(self):
         replay = self.trapped("window")
         self.assertEqual([it[:4] for it in replay.lost("ca3")], [
-            (43, RAM + 0xA0, "ca3", RAM + 0x190), (40, RAM + 0x64, RAM + 0x190, "ca1"), (39, RAM + 0x60, "ca1", "ca1")])
+            (45, RAM + 0xA8, "ca3", "ca3"), (43, RAM + 0xA0, "ca3", RAM + 0x190), (40, RAM + 0x64, RAM + 0x190, "ca1"), (39, RAM + 0x60, "ca1", "ca1")])
         self.assertEqual((replay.n, replay.lost("cs0"), replay.lost("kept")), (45, [], []))
         for where in (RAM + 8, RAM - 16, RAM + PAGE, "nowhere", 1 << 64):
             self.assertRaises(OutOfRange, replay.origin, where)
+
+    def test_lost_by_a_copy(self):
+        """Double words: their stores stand for the granule, with the granule that they come from."""
+        replay = self.trapped("copy")
+        self.assertEqual([it[:4] for it in replay.lost("ca3")], [
+            (45, RAM + 0x68, "ca3", RAM + 0x160), (19, RAM + 0x50, RAM + 0x160, RAM + 0x140), (25, RAM + 0x50, RAM + 0x160, RAM + 0x140)])
+        self.assertEqual((replay.n, replay.lost(RAM + 0x170)), (46, []))
 
     def test_calls(self):
         replay = Replay(Machine(text=read("examples", "compartments.s")))

@@ -2,7 +2,8 @@
 
 from cases.conversations import conversation, modelled, typed
 from model.devices import RAM
-from model.pasts import Past
+from model.pasts import LongPast, Past
+from model.schedules import Schedule
 
 
 def session(*given, **how):
@@ -91,9 +92,13 @@ FALSE = [
 ]
 
 
+# What had a tag once: ca1, the granule at ca2 and MTDC.
+CLEARED = HAS + "csetaddr ca1, ca0, a1; ccleartag ca1, ca1; sc.cap ca1, (ca2); cspecialrw cnull, mtdc, ca1; "
+
+
 def false():
     for about, more in FALSE:
-        yield session(about, HAS + more, after(HAS + more, "lost ct0; origin ct0"))
+        yield session(about, CLEARED + more, after(CLEARED + more, "lost ct0; origin ct0"))
 
 
 # ---- chains
@@ -143,7 +148,7 @@ def stretches():
     for count in (2, 3, 4, 5, 12, 13):
         yield session(f"Two links take turns: after {count} events", TURNS, f"step {count}; origin ca0; origin ca1")
         yield session(f"Two links take turns through a granule: after {count} events", THROUGH,
-                      f"step {count + 3}; origin ca0; origin {BYTES - 4:#x}")
+                      f"step {count + 3}; origin ca0; origin {BYTES:#x}")
     for about, other in (("another instruction", "csetaddr ca0, ca0, zero"), ("another source", "cincoffsetimm ca0, ca2, 16"),
                          ("the same instruction elsewhere", "cincoffsetimm ca0, ca0, 16"), ("a number", "addi a0, zero, 1")):
         text = WRITER.format(other)
@@ -187,6 +192,63 @@ def memory():
                                                      "0x80000ff0") + "; lost 0x80000100")
     yield session("Chains up to the image", IMAGE, "step 4; origin ca1; origin ca2; step 1; origin 0x80000130; step 1; origin 0x80000100; "
                   "origin 0x80000110; lost 0x80000100; step 2; origin 0x80000120; origin a3; lost 0x80000120; origin ca0")
+
+
+# ---- a tag that a copy of words loses
+
+# A granule at data with a capability, or as it is in the image, and two double words on their way from there to data + 64.
+LABELS = {"data": BYTES, "copy": BYTES + 64, "later": BYTES + 128}
+WORDS = ("cspecialrw ca0, ddc, cnull; auipc a1, 0x0; addi a1, a1, 1020; csetaddr ca1, ca0, a1; cincoffsetimm ca2, ca1, 64; "
+         "csetboundsimm ca3, ca1, 32; sc.cap ca3, (ca1); ")
+COPY = "ld t0, 0(a1); sd t0, 64(a1); ld t1, 8(a1); sd t1, 72(a1)"
+COPIES = [
+    ("one double word after the other", COPY),
+    ("both loads first, and the upper half first", "ld t0, 0(a1); ld t1, 8(a1); sd t1, 72(a1); sd t0, 64(a1)"),
+    ("through capabilities", "cincoffsetimm ca4, ca1, 8; cincoffsetimm ca5, ca2, 8; ld.cap t0, (ca1); ld.cap t1, (ca4); sd.cap t0, (ca2); "
+     "sd.cap t1, (ca5)"),
+    ("through DDC", "addi a4, a1, 8; addi a5, a1, 72; addi a6, a1, 64; ld.ddc t0, (a1); sd.ddc t0, (a6); ld.ddc t1, (a4); "
+     "sd.ddc t1, (a5)"),
+    ("through one register", "ld t0, 0(a1); sd t0, 64(a1); ld t0, 8(a1); sd t0, 72(a1)"),
+    ("by a loop", "addi a4, zero, 2; addi a5, a1, 0; again: ld t0, 0(a5); sd t0, 64(a5); addi a5, a5, 8; addi a4, a4, -1; "
+     "bne a4, zero, again"),
+    ("over another capability", "sc.cap ca2, (ca2); " + COPY),
+    ("and the copied one goes then", COPY + "; sd zero, 0(a1)"),
+    ("from where they are stored", "ld t0, 0(a1); ld t1, 8(a1); sd t0, 0(a1); sd t1, 8(a1)"),
+]
+# What cheats: it is no copy of a tagged capability as data, or none of double words.
+NO_COPIES = [
+    ("the granule had no tag", "sd zero, 24(a1); ld t0, 16(a1); sd t0, 64(a1); ld t1, 24(a1); sd t1, 72(a1)"),
+    ("the capability is another one at the second load", "ld t0, 0(a1); sd t0, 64(a1); sc.cap ca2, (ca1); ld t1, 8(a1); sd t1, 72(a1)"),
+    ("its tag is gone at the second load", "ld t0, 0(a1); sd t0, 64(a1); sb t0, 0(a1); ld t1, 8(a1); sd t1, 72(a1)"),
+    ("the same bits without a tag", COPY + "; ld t0, 64(a1); sd t0, 128(a1); ld t1, 72(a1); sd t1, 136(a1)"),
+    ("the halves change places", "ld t0, 8(a1); sd t0, 64(a1); ld t1, 0(a1); sd t1, 72(a1)"),
+    ("one half alone", "ld t0, 0(a1); sd t0, 64(a1)"),
+    ("one half twice", "ld t0, 0(a1); sd t0, 64(a1); sd t0, 64(a1)"),
+    ("halves of two granules", "sc.cap ca3, 0(ca2); ld t0, 0(a1); sd t0, 128(a1); ld t1, 72(a1); sd t1, 136(a1)"),
+    ("a number is added", "ld t0, 0(a1); addi t0, t0, 0; sd t0, 64(a1); ld t1, 8(a1); sd t1, 72(a1)"),
+    ("words of four bytes", "lw t0, 0(a1); sw t0, 64(a1); lw t0, 4(a1); sw t0, 68(a1); ld t1, 8(a1); sd t1, 72(a1)"),
+    ("a byte is stored over them", COPY + "; sb zero, 79(a1)"),
+    ("double words of a device", "lui a4, 0x10000; ld t0, 8(a4); sd t0, 64(a1); ld t1, 8(a4); sd t1, 72(a1)"),
+]
+
+
+def copies():
+    for about, rows in COPIES + NO_COPIES:
+        text = WORDS + rows.replace("sc.cap ca3, 0(ca2)", "sc.cap ca3, (ca2)") + "; lc.cap ca4, (ca2); cmove ca5, ca4"
+        where = ("step 5; " if "again" in rows else "") + each("lost {0}; origin {0}", "data copy later ca5")
+        yield session(f"Copied as data: {about}", text, after(text, where), None, LABELS)
+    text = WORDS + COPY + "; lc.cap ca4, (ca2); " + "; ".join(6 * ["cincoffsetimm ca4, ca4, 8"]) + "; sc.cap ca4, (ca1)"
+    yield session("What was copied as data is moved, and stored over the capability", text,
+                  after(text, "lost ca4; lost data; back 2; lost data; back 9; lost copy"), None, LABELS)
+    text = f"{WORDS}ccleartag ca4, ca3; loop: cincoffsetimm ca4, ca4, 8; j loop"
+    for count in (1, 2, 3, 4, 5, 9):
+        yield session(f"A tag is cleared and {count} links lead on", text, f"step {8 + 2 * count - 1}; lost ca4; origin ca4")
+    text = WORDS + "addi a4, zero, 7; cmove ca5, ca4; sc.cap ca5, (ca2); lc.cap ca6, (ca2); cmove ca3, ca6"
+    yield session("A number in the place of a capability, and a number that was handed on", text, after(text, "lost ca3; lost a4; lost data"),
+                  None, LABELS)
+    text = WORDS + "sc.cap cnull, (ca1); lc.cap ca4, (ca1)"
+    yield session("Null is stored over a capability", text, after(text, "lost ca4; lost data; back 2; lost data"), None,
+                  LABELS)
 
 
 # ---- special registers
@@ -568,6 +630,62 @@ def schedules():
     yield session("Without ticks", KEEPS, "step 10; back 3; step 3; ago; origin a0; reg a0", (1, 0, b"ABC"))
 
 
+# ---- far back
+
+# A way of more events than LONG is long: the program keeps a machine SHORT before its end, from which the next begins
+# (crates/past/src/past.rt).
+LONG, SHORT = 1 << 14, 1 << 13
+COUNTS = "auipc a1, 0x0; addi a1, a1, 1024; loop: addi a0, a0, 1; sd a0, 0(a1); j loop"
+HALTS = (".pages {}; auipc a1, 0x0; addi a1, a1, 1020; lui a2, {}; loop: addi a0, a0, 1; sd a0, 4(a1); bne a0, a2, loop; lui a4, 0x100; "
+         "sd zero, 0(a4)")
+# Adds the time and what is received.
+ADDS = "lui a1, 0x200c; lui a2, 0x10000; loop: ld a0, -8(a1); ld a3, 8(a2); add a4, a4, a0; add a4, a4, a3; j loop"
+SHOWN = "ago; reg a0; mem 0x80000400 8"
+# Bytes and ticks, often enough for a place between a step and either.
+SELDOM = (97, 89, bytes(range(256)))
+
+
+def far(about, text, commands, schedule=None):
+    return modelled(about, text, commands.replace("?", SHOWN), schedule, kind=LongPast)
+
+
+def phases(text, schedule, steps):
+    """How many events to take back so that a place of each kind is SHORT before: beside a byte, and beside a tick."""
+    run = LongPast(text, Schedule(*schedule))
+    run.answer(f"step {steps}")
+    kinds = [kind for kind, _, _ in run.given]
+    for before, after in (("byte", "step"), ("step", "tick"), ("tick", "step"), ("step", "byte"), ("step", "step")):
+        yield before, after, run.count - max(n for n in range(LONG + 1, run.count)
+                                             if (kinds[n - SHORT - 1], kinds[n - SHORT]) == (before, after))
+
+
+def far_back():
+    for count in (LONG, LONG + 1):
+        yield far(f"To the first {count} events, and further", COUNTS, f"step {count + 1}; back 1; ?; back 1; ?; step 3; back 2; ?")
+    yield far("Again and again", COUNTS, f"step {LONG + 900}; " + times(9, "back 1; ?") + f"; step 4; back 7; ?; back {SHORT // 2}; ?")
+    for more in (-1, 0, 1):
+        yield far(f"To where a machine is kept: {more:+}", COUNTS,
+                  f"step {LONG + 500}; back 1; ?; back {SHORT + more}; ?; back 1; ?; step 2; ?; back {LONG // 4}; ?")
+    yield far("Far back, and on in another way: a byte that wasn't there", KEEPS,
+              f"step {LONG + 700}; back 1; reg a0; back {SHORT + 700}; byte 0x5a; step {SHORT + 1400}; back 1; ?; back {SHORT + 690}; ?; "
+              "back 9; byte 0x41; step 9; ?")
+    yield far("A way shorter than that to the kept machine, and on in another way after it", KEEPS,
+              f"step {LONG + 700}; back 1; back {SHORT // 2}; byte 0x5a; step {SHORT}; ?; back 1; ?; back {SHORT}; ?; step 9; ?")
+    for count in (1, 2, 3, 5, 6):
+        yield far(f"Ticks and bytes beside the steps: the kept machine stands among them, {count} before the last", ADDS,
+                  f"step 9; tick {SHORT - 5}; byte 7; step 2; byte 9; tick 2; step {SHORT}; back {count}; ?; back {SHORT - 3}; ?; step 9; "
+                  f"reg a4; back 9; ?; back 3; ?; tick {SHORT + 9}; step 2; ?; back 3; step 4; ?; reg a4")
+    yield far("Back to a stop", COUNTS, f"step {LONG + 800}; stop at 0x8000000c; {times(4)}; reg a0; back 1; {times(3)}; step 9; ?")
+    yield far("The halt, and steps after it", HALTS.format(1, "0x1"),
+              f"step 20000; ?; back 2500; ?; back 5200; ?; {times(4, 'back 3; ?')}; step 20000; ?; back 8000; ?")
+    for pages in (17, 18, 40):
+        yield far(f"A machine of {pages} pages", HALTS.format(pages, "0x4"),
+                  f"step {LONG + 900}; " + times(3, "back 1; ?") + "; step 1; ?")
+    for before, after, count in phases(KEEPS, SELDOM, LONG + 900):
+        yield far(f"On a schedule: the kept machine stands between a {before} and a {after}", KEEPS,
+                  f"step {LONG + 900}; back {count}; ?; back 1; ?; back {SHORT - 1}; ?; step 1; ?; step 300; back 1; ?", SELDOM)
+
+
 # ---- tables of symbols
 
 # Stores of data beside and over a capability, of both kinds to RAM and of one to a device.
@@ -618,9 +736,9 @@ def named():
 
 
 def conversations():
-    for part in (chains, stretches, false, memory, specials, traps, jumps, back_and_forth, to_stops, changes, calls, refusals,
+    for part in (chains, stretches, false, memory, copies, specials, traps, jumps, back_and_forth, to_stops, changes, calls, refusals,
                  schedules,
-                 to_stops_on_schedules, named):
+                 to_stops_on_schedules, far_back, named):
         yield from part()
 
 

@@ -6,6 +6,7 @@ The statuses, the order of faults and the texts are those of the program's descr
 import re
 
 from cases.bounds_texts import length_text, text as bounds_text, word_text
+from cases.call_traces import call_traces
 from cases.program_lines import BAD, FILE, LISTED, NO_IMAGE, REPLY, TEXT, UNWRITTEN, case, cut_short, fails, file_of, is_directory
 from cases.program_lines import joined, missing, no_label, refused, unread
 from cases.program_runs import ended_otherwise, ends, labelled_runs, not_begun, profiles, runs_without_table, traces
@@ -457,7 +458,7 @@ def fault_texts():
 
 def files():
     lines = ["# a command line, files and streams => the status, what is opened and made, sent, told, and what stands in the file made"]
-    lines += [*ends(), *ended_otherwise(), *not_begun(), *traces(), *profiles(), *labelled_runs(), *runs_without_table(), *images(),
-              *named(), *further_faults(), *headed(), *faults(), *failing(), *read_whole(), *sources()]
+    lines += [*ends(), *ended_otherwise(), *not_begun(), *traces(), *profiles(), *call_traces(), *labelled_runs(), *runs_without_table(),
+              *images(), *named(), *further_faults(), *headed(), *faults(), *failing(), *read_whole(), *sources()]
     yield "commands.txt", lines
     yield "told.txt", fault_texts()

@@ -3,11 +3,13 @@
 from collections import Counter
 
 from cases.quoting import quoted
-from model import recorded
+from model import calls, recorded
 from model.devices import RAM
 from model.images import FIRST, header, section
-from model.origins import LABEL
+from model.listings import with_names
+from model.origins import LABEL, Event
 from model.rows import text_of
+from model.schedules import Schedule
 from model.texts import Program, machine_of
 from model.words import SPACE
 
@@ -52,6 +54,25 @@ def profiled(text, steps, labels=(), keys=b""):
     lines = [f"{count} {1000 * count // done // 10}.{1000 * count // done % 10} % {place:016x}{names.get(place, '')}\n"
              for place, count in sorted(counts.items(), key=lambda counted: (-counted[1], counted[0]))]
     return "".join([*lines, f"{done} steps\n"])
+
+
+def events_of(text, steps, schedule):
+    """The events of a run by the model."""
+    machine, events = machine_of(text), []
+    for kind, byte in schedule.events(steps, lambda: machine.halted is not None):
+        if kind == "step":
+            events.append(recorded.event(machine))
+            continue
+        before = machine.state()
+        machine.byte(byte) if kind == "byte" else machine.tick()
+        events.append(Event(before, machine.state(), {}, ""))
+    return events
+
+
+def called(text, steps, labels=(), schedule=Schedule(1000, 100)):
+    """The lines of calls and returns, by the model."""
+    lines = "".join(f"{line}\n" for line in calls.told(events_of(text, steps, schedule)))
+    return with_names(lines, labels, f"([0-9a-f]{{16}}){LABEL}")
 
 
 def listed(text):

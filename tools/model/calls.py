@@ -1,4 +1,4 @@
-"""The calls that a recorded run leaves open, by the words of docs/DEBUGGER.md: who called whom and has not returned."""
+"""The calls that a recorded run leaves open, by the words of docs/DEBUGGER.md: who called whom and has not returned; and all in order."""
 from typing import NamedTuple
 
 from model.capabilities import is_unsealed
@@ -64,3 +64,16 @@ def lines(events):
     for number, event in enumerate(events, 1):
         calls = after_event(calls, number, event)
     return [str(call) for call in reversed(calls)] or ["no call is open"]
+
+
+def told(events):
+    """The calls and returns of events in order, each after two spaces for each call that is open around it."""
+    calls, found = [], []
+    for number, event in enumerate(events, 1):
+        left = after_event(calls, number, event)
+        if len(left) > len(calls):
+            found.append("  " * len(calls) + str(left[-1]))
+        elif len(left) < len(calls):
+            found.append("  " * len(left) + f"{number} {placed(event.before.pcc[1])} returned to {placed(event.after.pcc[1])}")
+        calls = left
+    return found

@@ -28,6 +28,9 @@ class Making(NamedTuple):
 
 NUMBER = Making("number")
 
+# The rows that load and store double words.
+DOUBLE_LOADS, DOUBLE_STORES = {"ld", "ld.ddc", "ld.cap"}, {"sd", "sd.ddc", "sd.cap"}
+
 
 class Event(NamedTuple):
     """What an event found and left, what it wrote by places, its line, and the step that it is, if it is one that the machine does."""
@@ -99,14 +102,19 @@ def instruction(event):
     return event.line.partition(": ")[0]
 
 
-def stretch_lines(links):
+def stretch_lines(links, written):
     """The lines of links one after the other that differ in their numbers and values alone: of more than three all between the first and
     the last are one line, with their count."""
-    lines = [written_text(*link) for link in links]
     if len(links) < 4:
-        return lines
+        return [line for link in links for line in written(*link)]
     _, event, place = links[0]
-    return [lines[0], f"{source_text(event, place)}, {len(links) - 2} times: {instruction(event)}", lines[-1]]
+    return [*written(*links[0]), f"{source_text(event, place)}, {len(links) - 2} times: {instruction(event)}", *written(*links[-1])]
+
+
+def link_lines(links, written):
+    """The lines of links, newest first."""
+    stretches = groupby(links, lambda link: (source_text(*link[1:]), instruction(link[1])))
+    return [line for _, stretch in stretches for line in stretch_lines(list(stretch), written)]
 
 
 def opening_text(opening, place):
@@ -243,22 +251,88 @@ def chain(events, place):
 def origin(events, opening, place):
     """The lines of `origin`, newest first."""
     links, end = chain(events, place)
-    stretches = groupby(links, lambda link: (source_text(*link[1:]), instruction(link[1])))
-    lines = [line for _, stretch in stretches for line in stretch_lines(list(stretch))]
-    return lines + ([opening_text(opening, end)] if end else [])
+    return link_lines(links, lambda *link: [written_text(*link)]) + ([opening_text(opening, end)] if end else [])
+
+
+# ---- where tags went
+
+def loss_lines(number, event, place):
+    """The lines of an event at which a tag went: what it wrote, and the conditions of the tag."""
+    told = (f"  {'ok' if holds else 'no'} {text}" for text, holds in conditions(event.writes[place], event.before))
+    return [written_text(number, event, place), *told]
+
+
+def had_tag(event, place):
+    """Whether the source of what an event wrote at a place had its tag."""
+    source = event.writes[place].source
+    return source is not None and held(event.before, source)[2]
+
+
+class Half(NamedTuple):
+    """A double word that was copied: where from and where to, and the numbers of its load and its store."""
+    source: int
+    target: int
+    load: int
+    store: int
+
+
+def accessed(event, rows):
+    """The instruction of a step that does one of these rows, and the address that it accesses."""
+    if event.step is None or event.step.trap or event.step.insn.row not in rows:
+        return None
+    insn = event.step.insn
+    return insn, (event.before.registers[insn.rs1][1] + insn.imm) % SPACE
+
+
+def half(events, store):
+    """The double word that the event of this number stored of a register that a load had written last, or None."""
+    stored = accessed(events[store - 1], DOUBLE_STORES)
+    load = stored and last(events[:store - 1], (REGISTER, stored[0].rs2))
+    loaded = load and accessed(events[load - 1], DOUBLE_LOADS)
+    return Half(loaded[1], stored[1], load, store) if loaded else None
+
+
+def copied(events, store, granule):
+    """The double words of a granule that the event of this number wrote last, the lower one first, if both were copied from a granule that
+    held a tagged capability of their bits at both loads; or None."""
+    earlier = last(events[:store - 1], (GRANULE, granule))
+    halves = [earlier and half(events, earlier), half(events, store)]
+    if not all(halves):
+        return None
+    lower, upper = sorted(halves, key=lambda it: it.target)
+    if (lower.target, upper.target) != (granule, granule + 8) or upper.source != lower.source + 8:
+        return None
+    value = held(events[store - 1].after, (GRANULE, granule))
+    for number in (lower.load, upper.load):
+        state = events[number - 1].before
+        if lower.source not in state.tags or held(state, (GRANULE, lower.source))[:2] != value[:2]:
+            return None
+    return lower, upper
+
+
+def data_lines(events, store, granule):
+    """What is known of data that the event of this number stored into a granule."""
+    halves = copied(events, store, granule)
+    if halves:
+        return [f"{placed(granule)} was copied as data from {placed(halves[0].source)}, a tagged capability then:",
+                *(f"{number} {events[number - 1].line}" for it in halves for number in (it.load, it.store))]
+    place = GRANULE, granule
+    number = last(events[:store], place, is_lost)
+    return loss_lines(number, events[number - 1], place) if number else []
 
 
 def losses(events, place):
     """The lines of `lost`, or none."""
-    lines = []
-    while place and (number := last(events, place, is_lost)):
-        event = events[number - 1]
-        making = event.writes[place]
-        lines += [written_text(number, event, place),
-                  *(f"  {'ok' if holds else 'no'} {text}" for text, holds in conditions(making, event.before))]
-        goes_on = making.source and not held(event.before, making.source)[2]
-        events, place = events[:number - 1], making.source if goes_on else None
-    return lines
+    if not events or held(events[-1].after, place)[2]:
+        return []
+    links, _ = chain(events, place)
+    tags = [n for n, link in enumerate(links) if had_tag(*link[1:])]
+    if tags:
+        return link_lines(links[:tags[0] + 1], loss_lines)
+    if not links or links[-1][2][0] != GRANULE or links[-1][1].writes[links[-1][2]] != NUMBER:
+        return []
+    told = data_lines(events, links[-1][0], links[-1][2][1])
+    return told and link_lines(links[:-1], loss_lines) + told
 
 
 def lost(events, place):

@@ -89,3 +89,9 @@ class Past(Session):
     def answers(self, lines):
         """The replies to lines, one after the other."""
         return "".join(map(self.answer, lines))
+
+
+class LongPast(Past):
+    """Without a record of its events: a session that isn't asked where a value came from."""
+
+    meet = Session.meet

@@ -84,7 +84,7 @@ REST = [
      "policy_audit/specs/Found, Told, Lines, Text, Entries"),
     ("where a value came from, where a tag was lost, who called whom",
      "origins/specs/Places, Making, Made, Tags, Kept, Search, Parts; past/specs/Replay, Position, Given; "
-     "origin_texts/specs/Link, Stretches, Chain, Conditions, Origin, Calls"),
+     "origin_texts/specs/Link, Stretches, Chain, Conditions, Origin, Copied, Lost, Calls, CallTrace"),
     ("sessions",
      "debug_commands/specs/Address, Command; debugger/specs/SessionState, Stops, Stepping, LastStop, Reaching, Reply, Answers, "
      "Conversation, Talk, OnSchedule"),
@@ -94,7 +94,7 @@ REST = [
      "program/specs/Debugging, Telling, Carrying"),
     ("capabilities and the machine for C",
      "c_types/specs/Halves, Words; cheri_c/specs/Insns; "
-     "cherisim_c/specs/Status, Made, Running, Stepping, Reaching, Questions, Refusals, Policies"),
+     "cherisim_c/specs/Status, Made, Running, Stepping, Reaching, Questions, Refusals, Policies, Pasts, Links"),
 ]
 
 

@@ -1,3 +1,6 @@
+mod Given
+mod Losses
+mod Sources
 pub mod Buffers
 pub mod RamBytes
 pub mod Reaches

@@ -8,7 +8,7 @@ use Rattle.steps.specs.declared.event.Event.TheVariants.{Step}
 use Rattle.steps.specs.Event.{after, sent}
 use Rattle.steps.specs.State.{State}
 use Rattle.schedules.specs.Schedule.{is_halted}
-use Rattle.cherisim_c.specs.Stepping.{goes_on, has_bytes}
+use Rattle.cherisim_c.specs.Stepping.{goes_on, has_bytes, may_step}
 use Rattle.cherisim_c.proofs.Runs.{append-none}
 
 after-more : (n : ℕ) (s : State) → run_after (replicate (suc n) Step) s ≡ after Step (run_after (replicate n Step) s)
@@ -48,6 +48,15 @@ going left byte address bytes s on =
     let more = both (nat_lt 0 left) (is_none byte && (not (is_halted s) && has_bytes address bytes s)) on in
     let silent = both (is_none byte) (not (is_halted s) && has_bytes address bytes s) more.1 in
     let runs = both (not (is_halted s)) (has_bytes address bytes s) silent.1 in
+    (some-left left more.0, none-sent byte silent.0, runs.1)
+
+-- the same where a place is looked at
+pub going_held : (left : ℕ) (byte : Option ℕ) (s : State) (held : Bool) → (may_step left byte s && held) ≡ true
+    → (0 < left) × (byte ≡ None) × (held ≡ true)
+going_held left byte s held on =
+    let runs = both (may_step left byte s) held on in
+    let more = both (nat_lt 0 left) (is_none byte && not (is_halted s)) runs.0 in
+    let silent = both (is_none byte) (not (is_halted s)) more.1 in
     (some-left left more.0, none-sent byte silent.0, runs.1)
 
 -- ---- one more step

@@ -7,6 +7,8 @@ pub mod Reaching
 pub mod Questions
 pub mod Refusals
 pub mod Policies
+pub mod Pasts
+pub mod Links
 -- Inner words
 pub mod Handle
 pub mod Walks

@@ -36,7 +36,7 @@ fn opened(alloc: Global, image: &Image) -> Option<Box<Machine<WordCap>>>
 }
 
 /// The image that bytes are.
-fn image_of_bytes(alloc: Global, bytes: &[u8]) -> Result<Image, ImageFault>
+pub(crate) fn image_of_bytes(alloc: Global, bytes: &[u8]) -> Result<Image, ImageFault>
     ensures value { Answers (reading bytes.now) result }
     ensures read { IfErr result (λ fault. fault ≢ ImageFault.L10) }
 {

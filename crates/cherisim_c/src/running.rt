@@ -20,7 +20,7 @@ const PCC: u8 = 0;
 
 /// PCC's address.
 #[tactic(auto, unfolding(special_regs::specs::Scrs::scr_value))]
-fn pc(machine: &Machine<WordCap>) -> u64
+pub(crate) fn pc(machine: &Machine<WordCap>) -> u64
     ensures { result ≡ pc_of machine.now }
 {
     machine.scr(PCC).address()

@@ -62,7 +62,7 @@ fn step_while(machine: &mut Machine<WordCap>, most: u64, address: u64, bytes: &[
 }
 
 /// A byte as C gets it, if there is one.
-fn sent_of(byte: Option<u8>) -> Sent
+pub(crate) fn sent_of(byte: Option<u8>) -> Sent
     ensures value { result ≡ sent_of byte }
     ensures byte { byte_of result ≡ byte }
 {

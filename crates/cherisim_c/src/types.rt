@@ -170,3 +170,43 @@ pub struct Stepped {
     /// The byte that the last of them sent, if it sent one.
     pub sent: Sent,
 }
+
+/// What a machine was given.
+#[repr(C)]
+#[derive(Clone, Copy)]
+pub struct Noted {
+    /// How many steps or ticks, or the byte.
+    pub number: u64,
+    /// Whether steps (0), ticks (1) or a byte (2) were given.
+    pub kind: u32,
+}
+
+/// A place that holds a capability or a number.
+#[repr(C)]
+#[derive(Clone, Copy)]
+pub struct PlaceAsked {
+    /// The number of a register or a special register, or the address of a granule.
+    pub number: u64,
+    /// Whether it is a register (0), a special register (1), or a granule (2).
+    pub kind: u32,
+}
+
+/// What a place held after a step that wrote it, and what it was made of; or what it held at first.
+#[repr(C)]
+#[derive(Clone, Copy)]
+pub struct Linked {
+    /// What it held.
+    pub value: CheriCap,
+    /// How many events were before the step, or 0.
+    pub before: u64,
+    /// PCC's address at the step, or 0.
+    pub pc: u64,
+    /// The place.
+    pub place: PlaceAsked,
+    /// The place that the value was made of; where it has none, register 0.
+    pub source: PlaceAsked,
+    /// Whether it was made of a place.
+    pub has_source: bool,
+    /// Whether a step wrote it; if not, the opening state has it.
+    pub written: bool,
+}

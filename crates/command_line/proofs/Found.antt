@@ -196,7 +196,7 @@ scheduled : (plan : Plan)
     → IfSome (lines_named (name_of plan) commands) (λ lines. AllZip (λ line said. KeepsLimits line.takes said) lines (said plan))
     → IsScheduled plan
 unfolding commands
-scheduled (Go request why profile) k = record {
+scheduled (Go request why reports) k = record {
   some_step = k.1.0.0;
   some_times = k.1.1.0.0;
   most_steps = mul-le request.steps request.times 10000000000 10000 k.1.0.1 k.1.1.0.1;
@@ -204,7 +204,7 @@ scheduled (Go request why profile) k = record {
   most_gap = k.1.1.1.1.0.1;
   most_tick = k.1.1.1.1.1.0.1;
 }
-scheduled (Run request why profile) k = record {
+scheduled (Run request why reports) k = record {
   some_step = k.1.0.0;
   some_times = k.1.1.0.0;
   most_steps = mul-le request.steps request.times 100000000 1000000 k.1.0.1 k.1.1.0.1;

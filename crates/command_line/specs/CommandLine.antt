@@ -278,8 +278,8 @@ are_apart (file ∷ files) = list_all (are_two file) files && are_apart files
 abbrev pub name_of : Plan → Text
 name_of (Asm input output symbols lines quiet) = codes "asm"
 name_of (Image flat output layout quiet) = codes "image"
-name_of (Go request why profile) = codes "go"
-name_of (Run request why profile) = codes "run"
+name_of (Go request why reports) = codes "go"
+name_of (Run request why reports) = codes "run"
 name_of (Audit request) = codes "audit"
 name_of (Prove request) = codes "prove"
 name_of (Dis image symbols header quiet) = codes "dis"
@@ -319,8 +319,8 @@ said (Asm input output symbols lines quiet) = its_file input ∷ its_file output
 said (Image flat output layout quiet) =
     its_file flat ∷ its_file output ∷ Amount layout.at ∷ Amount layout.entry ∷ Amount layout.pages ∷ Amount layout.mode
     ∷ Used layout.flat_elf ∷ Used quiet ∷ []
-said (Go request why profile) = said_of_run request (Explained why ∷ file profile ∷ Used request.json ∷ [])
-said (Run request why profile) = said_of_run request (Explained why ∷ file profile ∷ Used request.json ∷ [])
+said (Go request why reports) = said_of_run request (Explained why ∷ file reports.profile ∷ file reports.calls ∷ Used request.json ∷ [])
+said (Run request why reports) = said_of_run request (Explained why ∷ file reports.profile ∷ file reports.calls ∷ Used request.json ∷ [])
 said (Audit request) = said_of_run request (Used request.json ∷ [])
 said (Prove request) =
     its_file request.image ∷ its_file request.policy ∷ file request.symbols ∷ file request.lines ∷ amount request.steps
@@ -378,8 +378,8 @@ pub record AreInRange (run : RunRequest) : Type 0 where
   pub most_tick : run.tick ≤ (limits RUN_TICK.2).1
 
 abbrev pub IsScheduled : Plan → Type 0
-IsScheduled (Go request why profile) = AreInRange request
-IsScheduled (Run request why profile) = AreInRange request
+IsScheduled (Go request why reports) = AreInRange request
+IsScheduled (Run request why reports) = AreInRange request
 IsScheduled (Audit request) = AreInRange request
 IsScheduled _ = ⊤
 

@@ -25,8 +25,8 @@ pub fn commands_and_arguments()
         ∷ argument (codes "gap") Named (Count 1 1000000) (Some (codes "1000"))
         ∷ argument (codes "tick") Named (Count 0 1000000) (Some (codes "100"))
         ∷ argument (codes "quiet") Flag Nothing None ∷ argument (codes "why") FlagOrAll Ends None
-        ∷ argument (codes "profile") Named Written None ∷ argument (codes "json") Flag Nothing None
-        ∷ argument (codes "trace") Named Written None
+        ∷ argument (codes "profile") Named Written None ∷ argument (codes "calls") Named Written None
+        ∷ argument (codes "json") Flag Nothing None ∷ argument (codes "trace") Named Written None
         ∷ argument (codes "trace-from") Named (Start 1 100000000000000) None
         ∷ argument (codes "trace-last") Named (Count 1 1000000) None ∷ argument (codes "policy") Named Read None
         ∷ argument (codes "symbols") Named Read None ∷ argument (codes "lines") Named Read None ∷ []))
@@ -37,8 +37,8 @@ pub fn commands_and_arguments()
         ∷ argument (codes "gap") Named (Count 1 1000000) (Some (codes "1000"))
         ∷ argument (codes "tick") Named (Count 0 1000000) (Some (codes "100"))
         ∷ argument (codes "quiet") Flag Nothing None ∷ argument (codes "why") FlagOrAll Ends None
-        ∷ argument (codes "profile") Named Written None ∷ argument (codes "json") Flag Nothing None
-        ∷ argument (codes "trace") Named Written None
+        ∷ argument (codes "profile") Named Written None ∷ argument (codes "calls") Named Written None
+        ∷ argument (codes "json") Flag Nothing None ∷ argument (codes "trace") Named Written None
         ∷ argument (codes "trace-from") Named (Start 1 100000000000000) None
         ∷ argument (codes "trace-last") Named (Count 1 1000000) None ∷ argument (codes "policy") Named Read None
         ∷ argument (codes "symbols") Named Read None ∷ argument (codes "lines") Named Read None ∷ []))

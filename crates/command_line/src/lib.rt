@@ -15,5 +15,5 @@ mod values;
 
 pub use fault::PlanFault;
 pub use layout::Layout;
-pub use plans::{Plan, ProveRequest, RunRequest, Why};
+pub use plans::{Plan, ProveRequest, Reports, RunRequest, Why};
 pub use reading::plan;

@@ -44,6 +44,15 @@ pub struct RunRequest<'a> {
     pub lines: Option<&'a str>,
 }
 
+/// What is written of a run to files of their own, besides its trace.
+#[derive(Clone, Copy)]
+pub struct Reports<'a> {
+    /// The file that its profile is written to, if one is named.
+    pub profile: Option<&'a str>,
+    /// The file that its calls and returns are written to, if one is named.
+    pub calls: Option<&'a str>,
+}
+
 /// An image that is asked about, and the policy.
 #[derive(Clone, Copy)]
 pub struct ProveRequest<'a> {
@@ -94,8 +103,8 @@ pub enum Plan<'a> {
         request: RunRequest<'a>,
         /// Which ends are explained, if any; with a policy none is.
         why: Option<Why>,
-        /// The file that its profile is written to, if one is named.
-        profile: Option<&'a str>,
+        /// The files that are written of it besides.
+        reports: Reports<'a>,
     },
     /// Run an image.
     Run {
@@ -103,8 +112,8 @@ pub enum Plan<'a> {
         request: RunRequest<'a>,
         /// Which ends are explained, if any; with a policy none is.
         why: Option<Why>,
-        /// The file that its profile is written to, if one is named.
-        profile: Option<&'a str>,
+        /// The files that are written of it besides.
+        reports: Reports<'a>,
     },
     /// List what breaks a policy in a run of an image, or the policy that the run keeps to.
     Audit(RunRequest<'a>),

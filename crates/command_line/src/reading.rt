@@ -15,7 +15,7 @@ ghost use Rattle.command_line.specs.declared.fault.PlanFault.TheVariants.{Memory
 use crate::fault::PlanFault;
 use crate::layout::Layout;
 use crate::misfit::{MISSING, Misfit, misfit_text};
-use crate::plans::{Plan, ProveRequest, RunRequest};
+use crate::plans::{Plan, ProveRequest, Reports, RunRequest};
 use crate::program::{alone, program};
 use crate::table::*;
 use crate::values::{
@@ -289,7 +289,10 @@ fn go_plan<'a>(found: &ArgMatches<'a>) -> Plan<'a>
             flag(found, "json"),
         ),
         why: ends(found, "why"),
-        profile: text(found, "profile"),
+        reports: Reports {
+            profile: text(found, "profile"),
+            calls: text(found, "calls"),
+        },
     }
 }
 
@@ -307,7 +310,10 @@ fn run_plan<'a>(found: &ArgMatches<'a>) -> Plan<'a>
             flag(found, "json"),
         ),
         why: ends(found, "why"),
-        profile: text(found, "profile"),
+        reports: Reports {
+            profile: text(found, "profile"),
+            calls: text(found, "calls"),
+        },
     }
 }
 

@@ -139,6 +139,9 @@ pub(crate) const TRACE: Argument = argument!("trace" Named Written, "FILE",
 pub(crate) const PROFILE: Argument = argument!("profile" Named Written, "FILE",
     "The file that the count of steps at each label is written to");
 
+pub(crate) const CALLS: Argument = argument!("calls" Named Written, "FILE",
+    "The file that calls and returns are written to, indented by depth");
+
 // Numbers with limits.
 pub(crate) const STEPS: Argument = argument!("STEPS" Operand Count 1 to 100000000, "", None,
     "The most steps that are done" "");
@@ -249,16 +252,16 @@ pub(crate) const COMMANDS: [CommandRow; 10] = [
         "go",
         "Runs a text or an image until it halts; what it sends goes to standard output",
         &[
-            FILE, GO_STEPS, GO_TIMES, INPUT, RUN_GAP, RUN_TICK, STATUS, WHY, PROFILE, RUN_JSON,
-            TRACE, TRACE_FROM, TRACE_LAST, POLICY, RUN_LABELS, RUN_LINES,
+            FILE, GO_STEPS, GO_TIMES, INPUT, RUN_GAP, RUN_TICK, STATUS, WHY, PROFILE, CALLS,
+            RUN_JSON, TRACE, TRACE_FROM, TRACE_LAST, POLICY, RUN_LABELS, RUN_LINES,
         ],
     ),
     (
         "run",
         "Runs an image, and writes the bytes that it sends to standard output",
         &[
-            IMAGE, STEPS, TIMES, INPUT, RUN_GAP, RUN_TICK, STATUS, WHY, PROFILE, RUN_JSON, TRACE,
-            TRACE_FROM, TRACE_LAST, POLICY, RUN_LABELS, RUN_LINES,
+            IMAGE, STEPS, TIMES, INPUT, RUN_GAP, RUN_TICK, STATUS, WHY, PROFILE, CALLS, RUN_JSON,
+            TRACE, TRACE_FROM, TRACE_LAST, POLICY, RUN_LABELS, RUN_LINES,
         ],
     ),
     (

@@ -9,7 +9,7 @@ use Rattle.assembler.specs.Labels as text
 use Rattle.symbols.specs.Reads as table
 use Rattle.commands.specs.Assembling.{seen_labels}
 use Rattle.commands.specs.Files.{Text, File, begun, ended, whole, Closes, Finishes, Gains, IsNew}
-use Rattle.commands.specs.Running.{Traces, traced}
+use Rattle.commands.specs.Running.{Grows, Traces, traced}
 
 -- empty, and then grown by bytes
 pub grown_from_empty : (held new : Option (List ℕ)) (bytes : List ℕ) → held ≡ Some [] → Appends held new bytes → new ≡ Some bytes
@@ -37,20 +37,25 @@ gains_closed old made new name bytes empty held first is_new more last =
     gains_whole old made new name bytes empty last.0 first is_new (Appends-kept empty held last.0 bytes more last.1) last.2
 
 -- a file that is made before other files change, and closed after them
-pub gains_around : (old made next new : Option (List File)) (trace : Option (Bor Text)) (name lines bytes : List ℕ)
-    (empty : Option (List ℕ)) → Gains old made (begun name ∷ []) → IsNew old empty → Traces trace lines made next
-    → Finishes name empty bytes next new
-    → Gains old new (begun name ∷ (traced trace lines ++ ended name (Some bytes) ∷ []))
-gains_around None made next new trace name lines bytes empty first is_new between last = tt
-gains_around (Some files) made next new None name lines bytes empty first is_new between last =
+pub gains_around : (old made next new : Option (List File)) (others : List File) (name bytes : List ℕ) (empty : Option (List ℕ))
+    → Gains old made (begun name ∷ []) → IsNew old empty → Grows made next others → Finishes name empty bytes next new
+    → Gains old new (begun name ∷ (others ++ ended name (Some bytes) ∷ []))
+gains_around None made next new others name bytes empty first is_new between last = tt
+gains_around (Some files) made next new [] name bytes empty first is_new between last =
     let full : last.0 ≡ Some bytes = grown_from_empty empty last.0 bytes is_new last.1 in
     (rw (between, first, full) at last.2) ∙ ap Some (append_assoc files (begun name ∷ []) (ended name (Some bytes) ∷ []))
-gains_around (Some files) made next new (Some trace) name lines bytes empty first is_new between last =
+gains_around (Some files) made next new (other ∷ others) name bytes empty first is_new between last =
     let full : last.0 ≡ Some bytes = grown_from_empty empty last.0 bytes is_new last.1 in
-    let there : next ≡ Some ((files ++ begun name ∷ []) ++ whole trace.now lines) = rw first at between in
+    let there : next ≡ Some ((files ++ begun name ∷ []) ++ (other ∷ others)) = rw first at between in
     (rw (there, full) at last.2)
-    ∙ ap Some (append_assoc (files ++ begun name ∷ []) (whole trace.now lines) (ended name (Some bytes) ∷ [])
-    ∙ append_assoc files (begun name ∷ []) (whole trace.now lines ++ ended name (Some bytes) ∷ []))
+    ∙ ap Some (append_assoc (files ++ begun name ∷ []) (other ∷ others) (ended name (Some bytes) ∷ [])
+    ∙ append_assoc files (begun name ∷ []) ((other ∷ others) ++ ended name (Some bytes) ∷ []))
+
+-- a trace, if a file is named for it
+pub grows_traced : (trace : Option (Bor Text)) (lines : List ℕ) (old new : Option (List File)) → Traces trace lines old new
+    → Grows old new (traced trace lines)
+grows_traced None lines old new same = same
+grows_traced (Some name) lines old new gains = gains
 
 -- labels as a map of names holds them, as a table has them
 pub seen_labels-entries : {A : Type 0} → (entries : List (Vec ℕ A × ℕ))

@@ -1,5 +1,5 @@
 -- The image that `image` makes of a flat file: where the bytes go, and what stands for what isn't named.
-use Rattle.std.specs.Prelude.{◌≡◌, ℕ, ◌+◌, ◌-◌, ◌*◌, ◌/◌, ◌^◌, nat_le, min, max, if◌then◌else◌, List, [], ◌∷◌, length, take}
+use Rattle.std.specs.Prelude.{◌≡◌, ℕ, ◌+◌, ◌-◌, ◌*◌, ◌/◌, ◌^◌, nat_le, min, max, if◌then◌else◌, List, length, take}
 use Rattle.std.specs.Prelude.{Bool, true, false, not, ◌&&◌, Option, Some, None, IfSome, ◌⊎◌}
 use Rattle.base.specs.Ram.{ram_base, page_bytes, most_pages, most_pages_version_1}
 use Rattle.hints.specs.Files.{is_elf}

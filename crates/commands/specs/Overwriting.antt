@@ -3,6 +3,7 @@ use Rattle.std.specs.Prelude.{◌≡◌, Bool, false, ◌||◌, Option, Some, No
 use Rattle.std.specs.Borrow.{Bor}
 use Rattle.command_line.specs.declared.plans.Plan.{Plan}
 use Rattle.command_line.specs.declared.plans.Plan.TheVariants.{Asm, Image, Go, Run, Audit}
+use Rattle.command_line.specs.declared.plans.Reports.{Reports}
 use Rattle.command_line.specs.declared.plans.RunRequest.{RunRequest}
 use Rattle.commands.specs.Files.{Text}
 
@@ -21,10 +22,15 @@ traces_over same run =
     (are_same same run.trace (Some run.image) || are_same same run.trace run.input)
     || ((are_same same run.trace run.policy || are_same same run.trace run.symbols) || are_same same run.trace run.lines)
 
+-- a report of it is written over such a file, or over its trace
+abbrev pub reports_over : Sameness → RunRequest → Option (Bor Text) → Bool
+reports_over same run report = traces_over same (record run { trace = report }) || are_same same report run.trace
+
 -- a file that a run writes is another of its own
-abbrev pub runs_over : Sameness → RunRequest → Option (Bor Text) → Bool
-runs_over same run profile =
-    traces_over same run || (traces_over same (record run { trace = profile }) || are_same same profile run.trace)
+abbrev pub runs_over : Sameness → RunRequest → Reports → Bool
+runs_over same run reports =
+    (traces_over same run || reports_over same run reports.profile)
+    || (reports_over same run reports.calls || are_same same reports.calls reports.profile)
 
 -- a file that is written is another file of the command
 abbrev pub overwrites : Sameness → Plan → Bool
@@ -32,8 +38,8 @@ overwrites same (Asm input output symbols lines quiet) =
     ((same output.now input.now || are_same same symbols (Some input)) || are_same same symbols (Some output))
     || ((are_same same lines (Some input) || are_same same lines (Some output)) || are_same same lines symbols)
 overwrites same (Image flat output layout quiet) = same output.now flat.now
-overwrites same (Go request why profile) = runs_over same request profile
-overwrites same (Run request why profile) = runs_over same request profile
+overwrites same (Go request why reports) = runs_over same request reports
+overwrites same (Run request why reports) = runs_over same request reports
 overwrites same (Audit request) = traces_over same request
 overwrites same other = false
 

@@ -1,9 +1,10 @@
 -- What a run sends, tells and writes, and where it ends. After an address stands its label, where a file with labels is named.
 use Rattle.std.specs.Prelude.{◌≡◌, ℕ, Bool, true, false, not, is_some, ◌==◌, ◌&&◌, if◌then◌else◌, List, [], ◌∷◌, ◌++◌, Option, Some, None}
-use Rattle.std.specs.Prelude.{string_bytes}
+use Rattle.std.specs.Prelude.{string_bytes, ⊤}
 use Rattle.std.specs.Borrow.{Bor}
 use Rattle.std.specs.Io.KnownBytes.{Appends}
 use Rattle.base.specs.Ram.{ram_base}
+use Rattle.command_line.specs.declared.plans.Reports.{Reports}
 use Rattle.command_line.specs.declared.plans.RunRequest.{RunRequest}
 use Rattle.command_line.specs.declared.plans.Why.{Why}
 use Rattle.command_line.specs.declared.plans.Why.TheVariants.{Unfetched, All, Double}
@@ -11,6 +12,7 @@ use Rattle.hart.specs.Opening.{opening}
 use Rattle.image.specs.Image.{Image, image_of}
 use Rattle.machine.specs.declared.end.End.{End}
 use Rattle.machine.specs.Run.{run_sent, end_of}
+use Rattle.origin_texts.specs.CallTrace.{call_trace}
 use Rattle.schedules.specs.Schedule.{steps_in}
 use Rattle.sim_run.specs.declared.run.Ran.{Ran}
 use Rattle.sim_run.specs.declared.stopping.StopAt.{StopAt}
@@ -102,19 +104,41 @@ abbrev pub traced : Option (Bor Text) → List ℕ → List File
 traced None lines = []
 traced (Some name) lines = whole name.now lines
 
--- A run that meets these events writes its trace, if a file is named for it; and its profile, if one is, to a file that is made before and
--- closed after.
-abbrev pub Writes : RunRequest → Option (Bor Text) → Run → List Event → Option (List File) → Option (List File) → Type 0
-Writes request None run events old new = Traces request.trace (trace_of request run events) old new
-Writes request (Some name) run events old new =
-    (text : List ℕ) × IsProfile run.table (fetches events (opening run.image)) text
-    × Gains old new (begun name.now ∷ (traced request.trace (trace_of request run events) ++ ended name.now (Some text) ∷ []))
+-- A profile, if a file is named for it.
+abbrev pub IsProfiled : Option (Bor Text) → Run → List Event → List ℕ → Type 0
+IsProfiled None run events text = ⊤
+IsProfiled (Some name) run events text = IsProfile run.table (fetches events (opening run.image)) text
+
+-- the calls and returns of these events
+abbrev pub calls_of : Run → List Event → List ℕ
+calls_of run events = call_trace run.table 0 [] events (opening run.image)
+
+-- what becomes of the file of a report, if one is named, and of others: it is made before them, and closed after
+abbrev pub around : Option (Bor Text) → List ℕ → List File → List File
+around None text others = others
+around (Some name) text others = begun name.now ∷ (others ++ ended name.now (Some text) ∷ [])
+
+-- Files get these, and where there are none all stay.
+abbrev pub Grows : Option (List File) → Option (List File) → List File → Type 0
+Grows old new [] = new ≡ old
+Grows old new more = Gains old new more
+
+-- A run that meets these events writes its trace, its profile and its calls, each if a file is named for it.
+abbrev pub Writes : RunRequest → Reports → Run → List Event → Option (List File) → Option (List File) → Type 0
+Writes request reports run events old new =
+    (profile : List ℕ) × IsProfiled reports.profile run events profile
+    × Grows old new (around reports.calls (calls_of run events)
+    (around reports.profile profile (traced request.trace (trace_of request run events))))
+
+-- its profile alone
+abbrev pub profile_alone : Option (Bor Text) → Reports
+profile_alone profile = record { profile = profile; calls = None }
 
 -- A run that no policy watches.
-abbrev pub RunsFreely : RunRequest → Option (Bor Text) → Option StopAt → Run → Ended → Change → Type 0
-RunsFreely request profile at run ended change =
+abbrev pub RunsFreely : RunRequest → Reports → Option StopAt → Run → Ended → Change → Type 0
+RunsFreely request reports at run ended change =
     Runs run at request.json request.quiet ended change.sent change.out
-    × Writes request profile run (events_of at run) change.old change.new
+    × Writes request reports run (events_of at run) change.old change.new
 
 -- ---- the first image
 

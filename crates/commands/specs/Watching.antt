@@ -1,9 +1,9 @@
 -- What a run does that is watched by a policy, and where it ends.
 use Rattle.std.specs.Prelude.{◌≡◌, ℕ, ◌-◌, Bool, true, false, not, ◌&&◌, if◌then◌else◌, List, [], Option, Some, None, get_or}
 use Rattle.std.specs.Prelude.{string_bytes, IsUtf8}
-use Rattle.std.specs.Borrow.{Bor}
 use Rattle.breach_texts.specs.Object.{refused_object}
 use Rattle.breach_texts.specs.Text.{refused_lines}
+use Rattle.command_line.specs.declared.plans.Reports.{Reports}
 use Rattle.command_line.specs.declared.plans.RunRequest.{RunRequest}
 use Rattle.hart.specs.Opening.{opening}
 use Rattle.machine.specs.Run.{end_of}
@@ -22,7 +22,7 @@ use Rattle.commands.specs.declared.loading.LoadedRun.{LoadedRun}
 use Rattle.commands.specs.declared.loading.Rules.{Rules}
 use Rattle.commands.specs.declared.running.Ended.{Ended}
 use Rattle.commands.specs.declared.watching.Stop.{Stop}
-use Rattle.commands.specs.Files.{Text, Change}
+use Rattle.commands.specs.Files.{Change}
 use Rattle.commands.specs.Loading.{IsLoaded, Run, events_to, run_of, state_after, terms_in}
 use Rattle.commands.specs.Running.{RunsFreely, Sends, Writes, place_of}
 
@@ -76,29 +76,29 @@ abbrev pub IsStopOf : Rules → Run → Bool → Bool → Option Stop → Type 0
 IsStopOf rules run json quiet None = KeepsToEnd rules run
 IsStopOf rules run json quiet (Some stop) = IsStop rules run json quiet stop.number (string_bytes stop.lines)
 
--- what is sent is written, so are its trace and its profile, if files are named for them, and the run ends as its machine does
-pub record Ends (request : RunRequest) (profile : Option (Bor Text)) (run : Run) (events : List Event) (ended : Ended) (change : Change)
+-- what is sent is written, so are its trace and its reports, if files are named for them, and the run ends as its machine does
+pub record Ends (request : RunRequest) (reports : Reports) (run : Run) (events : List Event) (ended : Ended) (change : Change)
     : Type 0 where
   pub sent : Sends run events change.sent change.out
-  pub written : Writes request profile run events change.old change.new
+  pub written : Writes request reports run events change.old change.new
   pub end : ended.end ≡ end_of (state_after events run)
 
 -- A run that a policy watches: it ends before the step at which the policy stops it, or as every run.
-pub data IsWatchedRun (rules : Rules) (request : RunRequest) (profile : Option (Bor Text)) (run : Run) (ended : Ended) (change : Change)
+pub data IsWatchedRun (rules : Rules) (request : RunRequest) (reports : Reports) (run : Run) (ended : Ended) (change : Change)
     : Type 0 where
   stopped :
       (number : ℕ) → IsStop rules run request.json request.quiet number (string_bytes ended.place)
-      → Ends request profile run (events_to (Some number) run) ended change → IsWatchedRun rules request profile run ended change
+      → Ends request reports run (events_to (Some number) run) ended change → IsWatchedRun rules request reports run ended change
   whole :
       KeepsToEnd rules run → string_bytes ended.place ≡ place_of run request.json request.quiet false (events_to None run)
-      → Ends request profile run (events_to None run) ended change → IsWatchedRun rules request profile run ended change
+      → Ends request reports run (events_to None run) ended change → IsWatchedRun rules request reports run ended change
 
 -- A run is watched by the rules of a policy, if there is one; else it ends before the trap that it is to stop at.
-abbrev pub RunsBy : Option Rules → RunRequest → Option (Bor Text) → Option StopAt → Run → Ended → Change → Type 0
-RunsBy None request profile at run ended change = RunsFreely request profile at run ended change
-RunsBy (Some rules) request profile at run ended change = IsWatchedRun rules request profile run ended change
+abbrev pub RunsBy : Option Rules → RunRequest → Reports → Option StopAt → Run → Ended → Change → Type 0
+RunsBy None request reports at run ended change = RunsFreely request reports at run ended change
+RunsBy (Some rules) request reports at run ended change = IsWatchedRun rules request reports run ended change
 
 -- A run that is asked for, with what its files hold.
-abbrev pub RunsFile : RunRequest → Option (Bor Text) → Option StopAt → Ended → Change → Type 0
-RunsFile request profile at ended change =
-    (loaded : LoadedRun) × IsLoaded request change.old loaded × RunsBy loaded.rules loaded.request profile at (run_of loaded) ended change
+abbrev pub RunsFile : RunRequest → Reports → Option StopAt → Ended → Change → Type 0
+RunsFile request reports at ended change =
+    (loaded : LoadedRun) × IsLoaded request change.old loaded × RunsBy loaded.rules loaded.request reports at (run_of loaded) ended change

@@ -1,10 +1,10 @@
 //! Commands that would write a file over another of their own.
 
 ghost use Rattle.std.specs.Prelude.{◌≡◌, ◌||◌, Some, IfSome};
-ghost use Rattle.commands.specs.Overwriting.{Overwrites, are_same, runs_over, traces_over};
+ghost use Rattle.commands.specs.Overwriting.{Overwrites, are_same, reports_over, runs_over, traces_over};
 
 use crate::files::Folder;
-use command_line::{Plan, RunRequest};
+use command_line::{Plan, Reports, RunRequest};
 
 /// Whether two names lead to one file, where both are given.
 fn are_same<F: Folder>(folder: &F, name: Option<&str>, other: Option<&str>) -> bool
@@ -31,19 +31,29 @@ fn traces_over<F: Folder>(folder: &F, run: RunRequest<'_>) -> bool
     (over_image || over_input) || ((over_policy || over_labels) || over_lines)
 }
 
-/// Whether the trace of a run or its profile is written over a file that is read for it, or over the other.
-fn runs_over<F: Folder>(folder: &F, run: RunRequest<'_>, profile: Option<&str>) -> bool
-    ensures { IfSome (F.same folder.now) (λ same. result ≡ runs_over same run.entry profile.entry) }
+/// Whether a report of a run is written over a file that is read for it, or over its trace.
+fn reports_over<F: Folder>(folder: &F, run: RunRequest<'_>, report: Option<&str>) -> bool
+    ensures { IfSome (F.same folder.now) (λ same. result ≡ reports_over same run.entry report.entry) }
 {
-    let trace = traces_over(folder, run);
-    let counts = traces_over(
+    let over_read = traces_over(
         folder,
         RunRequest {
-            trace: profile,
+            trace: report,
             ..run
         },
     );
-    trace || (counts || are_same(folder, profile, run.trace))
+    over_read || are_same(folder, report, run.trace)
+}
+
+/// Whether the trace of a run or a report of it is written over a file that is read for it, or over another of these.
+fn runs_over<F: Folder>(folder: &F, run: RunRequest<'_>, reports: Reports<'_>) -> bool
+    ensures { IfSome (F.same folder.now) (λ same. result ≡ runs_over same run.entry reports.entry) }
+{
+    let trace = traces_over(folder, run);
+    let profile = reports_over(folder, run, reports.profile);
+    let calls = reports_over(folder, run, reports.calls);
+    let each_other = are_same(folder, reports.calls, reports.profile);
+    (trace || profile) || (calls || each_other)
 }
 
 /// Whether the lines of a text are written over another file of `asm`.
@@ -84,14 +94,14 @@ pub fn overwrites<F: Folder>(folder: &F, plan: Plan<'_>) -> bool
         Plan::Image { flat, output, .. } => folder.is_same(output, flat),
         Plan::Go {
             request,
-            profile,
+            reports,
             ..
         }
         | Plan::Run {
             request,
-            profile,
+            reports,
             ..
-        } => runs_over(folder, request, profile),
+        } => runs_over(folder, request, reports),
         Plan::Audit(request) => traces_over(folder, request),
         _ => false,
     }

@@ -18,9 +18,9 @@ ghost use Rattle.commands.specs.Running.{events_of, first_run, is_told, place_li
 use crate::fault::ProgramFault;
 use crate::files::{Folder, make_file};
 use crate::loading::LoadedRun;
-use crate::profiling::run_profiled;
+use crate::reporting::run_reported;
 use crate::writing::{UntilFailure, Writing};
-use command_line::{RunRequest, Why};
+use command_line::{Reports, RunRequest, Why};
 use image::{DeviceFailed, Image};
 use machine::{End, Machine};
 use schedules::{Nobody, Progress, Schedule};
@@ -434,24 +434,24 @@ fn stop_of<'a, P: Progress>(
 }
 
 /// Runs an image with the bytes of its input on its console. It ends before the trap that it is to stop `at`, if any. The lines that are
-/// kept of its trace are written to a file, where one is named, in blocks of 64 KiB, and its profile to the file `profile`, if one is. A
+/// kept of its trace are written to a file, where one is named, in blocks of 64 KiB, and its `reports` to files, where these are. A
 /// run that is quiet doesn't say where it ended. Hands the output back.
 pub fn run_freely<'a, F: Folder, O: Write + Drop>(
     alloc: Global,
     folder: &mut F,
     run: &LoadedRun<'a>,
-    profile: Option<&'a str>,
+    reports: Reports<'a>,
     at: Option<StopAt>,
     output: O,
 ) -> Result<(Ended, O), ProgramFault<'a>>
     requires { IsRunnable run.now.schedule }
-    ensures ok { IfOk result (λ done. RunsFreely run.now.request profile.entry at (run_of run.now) done.0
+    ensures ok { IfOk result (λ done. RunsFreely run.now.request reports.entry at (run_of run.now) done.0
         (changed (O.contents output) (O.contents done.1) (F.files folder.old) (F.files folder.new))) }
-    ensures err { IfErr result (FailsFreely run.now.request profile.entry (run_of run.now) (events_of at (run_of run.now))
+    ensures err { IfErr result (FailsFreely run.now.request reports.entry (run_of run.now) (events_of at (run_of run.now))
         (F.files folder.old) (F.files folder.new)) }
 {
     let stop = stop_of(alloc, run, at, &mut folder.waiting(run.request.quiet))?;
-    let (machine, ran, output) = run_profiled(alloc, folder, run, profile, stop, output)?;
+    let (machine, ran, output) = run_reported(alloc, folder, run, reports, stop, output)?;
     let ended = ending(alloc, run, stop, &machine, ran)?;
     Ok((ended, output))
 }

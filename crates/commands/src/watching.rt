@@ -11,9 +11,10 @@ ghost use Rattle.commands.specs.Watching.{IsStopOf, IsWatchedRun, RunsBy, TellsR
 use crate::fault::ProgramFault;
 use crate::files::Folder;
 use crate::loading::{LoadedRun, Rules};
-use crate::profiling::run_profiled;
+use crate::reporting::run_reported;
 use crate::running::{Ended, ProgramMachine, run_freely};
 use breach_texts::{RuleLine, refused_lines, refused_object};
+use command_line::Reports;
 use machine::Machine;
 use policy::Refused;
 use policy_audit::rule_line;
@@ -126,47 +127,47 @@ fn run_watched<'a, F: Folder, O: Write + Drop>(
     folder: &mut F,
     run: &LoadedRun<'a>,
     rules: &Rules,
-    profile: Option<&'a str>,
+    reports: Reports<'a>,
     output: O,
 ) -> Result<(Ended, O), ProgramFault<'a>>
     requires numbered { AreNumbered rules.now }
     requires range { IsRunnable run.now.schedule }
-    ensures ok { IfOk result (λ done. IsWatchedRun rules.now run.now.request profile.entry (run_of run.now) done.0
+    ensures ok { IfOk result (λ done. IsWatchedRun rules.now run.now.request reports.entry (run_of run.now) done.0
         (changed (O.contents output) (O.contents done.1) (F.files folder.old) (F.files folder.new))) }
-    ensures err { IfErr result (FailsWatched rules.now run.now.request profile.entry (run_of run.now)
+    ensures err { IfErr result (FailsWatched rules.now run.now.request reports.entry (run_of run.now)
         (F.files folder.old) (F.files folder.new)) }
 {
     let stop = stop_of(alloc, run, rules, &mut folder.waiting(run.request.quiet))?;
     match stop {
         Some(stop) => {
             let number = Some(stop.number);
-            let (_, ran, output) = run_profiled(alloc, folder, run, profile, number, output)?;
+            let (_, ran, output) = run_reported(alloc, folder, run, reports, number, output)?;
             let end = ran.end;
             let place = stop.lines;
             Ok((Ended { end, place }, output))
         }
-        None => run_freely(alloc, folder, run, profile, None, output),
+        None => run_freely(alloc, folder, run, reports, None, output),
     }
 }
 
 /// Runs an image, watched by the rules of its policy, if it has one; else it ends before the trap that it is to stop `at`, if any. Its
-/// profile is written to the file `profile`, if one is named. Hands the output back.
+/// `reports` are written, where files are named for them. Hands the output back.
 pub fn run_loaded<'a, F: Folder, O: Write + Drop>(
     alloc: Global,
     folder: &mut F,
     run: &LoadedRun<'a>,
-    profile: Option<&'a str>,
+    reports: Reports<'a>,
     at: Option<StopAt>,
     output: O,
 ) -> Result<(Ended, O), ProgramFault<'a>>
     requires { IsReady run.now }
-    ensures ok { IfOk result (λ done. RunsBy run.now.rules run.now.request profile.entry at (run_of run.now) done.0
+    ensures ok { IfOk result (λ done. RunsBy run.now.rules run.now.request reports.entry at (run_of run.now) done.0
         (changed (O.contents output) (O.contents done.1) (F.files folder.old) (F.files folder.new))) }
-    ensures err { IfErr result (FailsBy run.now.rules run.now.request profile.entry at (run_of run.now)
+    ensures err { IfErr result (FailsBy run.now.rules run.now.request reports.entry at (run_of run.now)
         (F.files folder.old) (F.files folder.new)) }
 {
     match &run.rules {
-        None => run_freely(alloc, folder, run, profile, at, output),
-        Some(rules) => run_watched(alloc, folder, run, rules, profile, output),
+        None => run_freely(alloc, folder, run, reports, at, output),
+        Some(rules) => run_watched(alloc, folder, run, rules, reports, output),
     }
 }

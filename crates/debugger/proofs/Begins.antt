@@ -1,11 +1,12 @@
 -- A session with a past begins in the opening state of its image.
 use Rattle.std.proofs.Common.{◌≡◌, [], refl, sym, subst}
-use Rattle.std.specs.Prelude.{Option, Some}
+use Rattle.std.specs.Prelude.{Option, None, Some}
 use Rattle.hart.specs.Opening.{opening}
 use Rattle.steps.specs.State.{State}
 use Rattle.image.specs.Image.{Image}
 use Rattle.past.specs.Given.{PastState, past_of}
 use Rattle.past.specs.Replay.{ReplayState}
+use Rattle.debugger.specs.Keeping.{IsAnchored}
 use Rattle.debugger.specs.SessionState.{HasItsPast, IsBeginning, begun}
 
 at_opening : (image : Image) (replay : Option ReplayState) → IsBeginning replay
@@ -17,3 +18,8 @@ pub begins : (image : Image) (replay : Option ReplayState) (machine : State) (pa
 begins image replay machine past same opens none =
     subst (λ m. HasItsPast (begun m replay (Some past))) (sym opens)
     (subst (λ p. HasItsPast (begun (opening image) replay (Some p))) (sym none) (at_opening image replay same))
+
+-- no anchor is kept yet
+pub none_kept : (past : Option PastState) (replay : Option ReplayState) → IsAnchored None past replay
+none_kept None replay = tt
+none_kept (Some past) replay = tt

@@ -12,10 +12,12 @@ use Rattle.past.specs.Given.{PastState, but_last, count_of, count_of_one}
 use Rattle.past.specs.Replay.{ReplayState}
 use Rattle.past.specs.declared.given.Given.{Given}
 use Rattle.past.specs.declared.given.Given.TheVariants as gave
-use Rattle.debugger.specs.Keeping.{HasBegun, begun_past, kept_last, timeline}
+use Rattle.past.proofs.Anchors.{kept_more}
+use Rattle.past.specs.Anchor.{AnchorState}
+use Rattle.debugger.specs.Keeping.{HasBegun, IsAnchored, begun_past, kept_last, timeline}
 use Rattle.debugger.specs.Reply.{after_events, given, given_of, owed_after, past_after, replay_after}
 use Rattle.debugger.specs.SessionState.{StandsThere}
-use Rattle.debugger.proofs.Keeps.{keeps}
+use Rattle.debugger.proofs.Keeps.{beginning_after, keeps}
 
 first_all : (gs hs : List Given) → take (length gs) (gs ++ hs) ≡ gs
 first_all [] hs = refl
@@ -59,6 +61,12 @@ pub stays_there : (past : Option PastState) (replay : Option ReplayState) (owed 
     (owed_after events (given events replay owed marks s) replay owed s) (run_after (given events replay owed marks s) s)
 stays_there None replay owed s events marks stands = tt
 stays_there (Some past) replay owed s events marks stands = keeps past replay owed s stands events marks
+
+pub stays_anchored : (anchor : Option AnchorState) (past : Option PastState) (replay : Option ReplayState) (events : Events)
+    (es : List Event) → IsAnchored anchor past replay → IsAnchored anchor (past_after events es past) (replay_after events es replay)
+stays_anchored anchor None replay events es lies = tt
+stays_anchored anchor (Some past) replay events es lies =
+    kept_more anchor past replay (replay_after events es replay) (given_of events (length es) ∷ []) (beginning_after events es replay) lies
 
 pub all_same : (past : Option PastState) (replay : Option ReplayState) (owed : Bool) (s : State) (events : Events) (es : List Event)
     (p : Option PastState) (r : Option ReplayState) (o : Bool) (m : State) → m ≡ run_after es s → r ≡ replay_after events es replay

@@ -38,7 +38,7 @@ beginning_if : (b : Bool) (es : List Event) (replay : Option ReplayState)
 beginning_if true es replay = beginning_replayed es replay
 beginning_if false es replay = refl
 
-beginning_after : (events : Events) (es : List Event) (replay : Option ReplayState)
+pub beginning_after : (events : Events) (es : List Event) (replay : Option ReplayState)
     → beginning (replay_after events es replay) ≡ beginning replay
 unfolding replay_after
 beginning_after events es replay = beginning_if (are_scheduled events) es replay

@@ -7,11 +7,12 @@ use Rattle.debug_commands.specs.declared.command.Recall.TheVariants.{Ago, Origin
 use Rattle.hart.specs.Opening.{opening}
 use Rattle.steps.specs.State.{State}
 use Rattle.origins.specs.Places.{IsThere}
+use Rattle.past.specs.Anchor.{AnchorState, IsKeptOn}
 use Rattle.past.specs.Given.{PastState, but_last, count_of}
 use Rattle.past.specs.Replay.{ReplayState}
 use Rattle.past.specs.declared.given.Given.{Given}
 use Rattle.past.specs.declared.given.Given.TheVariants as gave
-use Rattle.debugger.specs.SessionState.{TimelineState}
+use Rattle.debugger.specs.SessionState.{HasItsPast, TimelineState}
 
 -- there is the place whose value is to differ
 abbrev pub IsChangeThere : Events → State → Type 0
@@ -35,6 +36,16 @@ IsRecalledThere Ago past = Unit {0}
 IsRecalledThere (Origin place) past = IsThere place (opening past.image)
 IsRecalledThere (Lost place) past = IsThere place (opening past.image)
 IsRecalledThere Calls past = Unit {0}
+
+-- an anchor that a session keeps lies in its past
+abbrev pub IsAnchored : Option AnchorState → Option PastState → Option ReplayState → Type 0
+IsAnchored anchor (Some past) replay = IsKeptOn (count_of past.given) anchor past replay
+IsAnchored anchor None replay = Unit {0}
+
+-- what is true of a timeline and its anchor
+pub record IsKept (time : TimelineState) (anchor : Option AnchorState) : Type 0 where
+  pub past : HasItsPast time
+  pub anchored : IsAnchored anchor time.past time.replay
 
 -- a timeline of these parts
 abbrev pub timeline : State → Option ReplayState → Bool → Option PastState → TimelineState

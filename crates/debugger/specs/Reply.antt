@@ -52,7 +52,8 @@ use Rattle.debugger.specs.LastStop.{since_stop}
 use Rattle.debugger.specs.SessionState.{SessionState, TimelineState, session_with}
 use Rattle.origins.specs.Places.{held}
 use Rattle.origin_texts.specs.Calls.{calls_text}
-use Rattle.origin_texts.specs.Origin.{lost_text, origin_text}
+use Rattle.origin_texts.specs.Lost.{lost_text}
+use Rattle.origin_texts.specs.Origin.{origin_text}
 use Rattle.past.specs.Given.{PastState, count_of, first_of, position_at, state_at}
 use Rattle.past.specs.Position.{at, position_after}
 use Rattle.past.specs.Replay.{ReplayState, replayed}

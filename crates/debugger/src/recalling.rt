@@ -3,7 +3,7 @@ ghost use Rattle.std.specs.Prelude.{◌≡◌, ◌⊎◌, ◌≤◌, ◌++◌, f
 ghost use Rattle.debug_commands.specs.declared.command.Back.TheVariants.{By};
 ghost use Rattle.debug_commands.specs.declared.command.Command.TheVariants.{Back, Recalls};
 ghost use Rattle.debug_commands.specs.Limits.{IsRecalledWithinLimits};
-ghost use Rattle.debugger.specs.Keeping.{IsRecalledThere, timeline};
+ghost use Rattle.debugger.specs.Keeping.{IsAnchored, IsRecalledThere, timeline};
 ghost use Rattle.debugger.specs.Reply.{back_line, is_beyond, is_beyond_past, is_outside, recalled as recalled_text};
 ghost use Rattle.debugger.specs.Reply.{distance_in, events_back, lacks_stop, recalled_in, taken_back};
 ghost use Rattle.debugger.specs.SessionState.{HasItsPast};
@@ -17,7 +17,7 @@ use cap_bounds::CapRep;
 use debug_commands::{Back as Distance, Command, DebugFault, Recall, Stop};
 use machine::Machine;
 use origin_texts::{put_calls, put_lost, put_origin};
-use past::{Past, Replay};
+use past::{Anchor, Past, Replay};
 use schedules::{Count, Progress};
 use std::alloc::{AllocError, Global};
 use symbols::Symbols;
@@ -113,18 +113,21 @@ fn take_back(
     replay: &mut Option<Replay>,
     owed: &mut bool,
     past: &mut Past,
+    anchor: &mut Option<Anchor<WordCap>>,
     events: u64,
 ) -> Result<(), AllocError>
-    requires { events ≤ count_of past.old.given }
+    requires few { events ≤ count_of past.old.given }
+    requires anchor { IsAnchored anchor.old (Some past.old) replay.old }
     ensures text { OnOk result (string_bytes text.new ≡ string_bytes text.old ++ back_line symbols.now events machine.new) }
     ensures state { OnOk result (timeline machine.new replay.new owed.new (Some past.new)
         ≡ taken_back events (timeline machine.old replay.old owed.old (Some past.old))) }
     ensures stands { OnOk result (HasItsPast (timeline machine.new replay.new owed.new (Some past.new))) }
     ensures same { OnErr result (timeline machine.new replay.new owed.new (Some past.new)
         ≡ timeline machine.old replay.old owed.old (Some past.old)) }
+    ensures anchor { IsAnchored anchor.new (Some past.new) replay.new }
 {
     let left = past.count() - events;
-    let Ok((then, player)) = past.machine_at(alloc, replay.as_ref(), left) else {
+    let Ok((then, player)) = past.machine_by(alloc, replay.as_ref(), left, anchor) else {
         return Err(AllocError);
     };
     let place = place_text(symbols, &then);
@@ -147,6 +150,9 @@ fn take_back(
     Ok(())
 }
 
+/// The room of the line that tells of events taken back, which is made first, lest an anchor take it.
+const BACK_ROOM: usize = 640;
+
 /// Takes back so many events, and answers the line that tells of it: B4 where there is no memory, and then nothing is taken back.
 fn told_back_by(
     alloc: Global,
@@ -160,7 +166,7 @@ fn told_back_by(
     ensures err { IfErr result (λ fault. fault ≡ DebugFault.B4) }
     ensures same { OnErr result (timeline.new ≡ timeline.old) }
 {
-    let mut text = String::new(alloc);
+    let mut text = String::with_capacity(alloc, BACK_ROOM)?;
     let Some(past) = &mut timeline.past else {
         return Err(DebugFault::B4);
     };
@@ -172,6 +178,7 @@ fn told_back_by(
         &mut timeline.replay,
         &mut timeline.owed,
         past,
+        &mut timeline.anchor,
         events,
     )?;
     Ok(text)

@@ -128,6 +128,7 @@ impl<C: CapRep> Session<C> {
                 replay,
                 owed: false,
                 past,
+                anchor: None,
             },
             symbols,
             stops: Vec::new(alloc),
@@ -149,8 +150,8 @@ impl Session<WordCap> {
     /// `stop changed ADDR [LEN]`, `stop trap`, `stop off`, `stops`, `changed R N`, `back N`, `back to stop`, `ago`, `origin R`, `lost R`,
     /// `calls`, `reg R`, `regs`, `scr`, `csr`, `caps`, `mem ADDR [LEN]`, `dis [ADDR [N]]`, `why`, `reach`, `may`, `help` and `quit`;
     /// numbers are those of the assembly language, and ADDR is a number or, if it is not one, a label of the session, or such a label
-    /// with a number added to it or taken away from it. A line whose first word begins with `#` is answered with nothing. `step`, `tick`, `byte`,
-    /// `until`, `trap`, `go`, `changed` and `back` change the machine, those of `stop` the stops, and none changes the labels.
+    /// with a number added to it or taken away from it. A line whose first word begins with `#` is answered with nothing. `step`, `tick`,
+    /// `byte`, `until`, `trap`, `go`, `changed` and `back` change the machine, those of `stop` the stops, and none changes the labels.
     ///
     /// Refused with B1 where the line has no word or its first is no command; with B2 where its operands are others, and where the
     /// line has more than 255 bytes or one of 128 or more, whatever its words; where a session without a past is asked for one, where more

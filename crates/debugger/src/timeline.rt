@@ -1,7 +1,7 @@
 //! A machine, the schedule that its steps follow, and what it was given.
 use cap_bounds::CapRep;
 use machine::Machine;
-use past::{Past, Replay};
+use past::{Anchor, Past, Replay};
 use std::marker::Model;
 
 /// A machine that meets the events of commands: on a schedule, if there is one, and with its past since the opening state of its image,
@@ -13,12 +13,15 @@ pub(crate) struct Timeline<C: CapRep> {
     /// Whether the tick after the last step is to come yet.
     pub(crate) owed: bool,
     pub(crate) past: Option<Past>,
+    /// A place in the past from which `back` gives events again, which is no part of the timeline's value.
+    pub(crate) anchor: Option<Anchor<C>>,
 }
 
 impl<C: CapRep> Model for Timeline<C> {
     ghost use Rattle.std.specs.Coded.{codes};
     ghost use Rattle.tagged_memory.specs.Layout.{memory_code};
-    ghost use Rattle.debugger.specs.SessionState.{HasItsPast, TimelineState};
+    ghost use Rattle.debugger.specs.Keeping.{IsKept};
+    ghost use Rattle.debugger.specs.SessionState.{TimelineState};
 
     ghost Value = { TimelineState };
 
@@ -26,5 +29,5 @@ impl<C: CapRep> Model for Timeline<C> {
 
     ghost view = { λ t. record { machine = t.machine; replay = t.replay; owed = t.owed; past = t.past } };
 
-    ghost invariant = { λ t. HasItsPast (record { machine = t.machine; replay = t.replay; owed = t.owed; past = t.past }) };
+    ghost invariant = { λ t. IsKept (record { machine = t.machine; replay = t.replay; owed = t.owed; past = t.past }) t.anchor };
 }

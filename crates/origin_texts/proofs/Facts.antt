@@ -1,9 +1,7 @@
 -- What is found among the first events of a past: it is one of them, and there are the places that it is about.
 use Rattle.std.proofs.Common.{◌≡◌, ℕ, zero, suc, ◌<◌, ◌≤◌, List, [], ◌∷◌, ◌++◌, length, take, refl, sym, ap, subst, ◌∙◌, arith}
 use Rattle.std.specs.Prelude.{Bool, true, false, Option, None, Some, IfSome, if◌then◌else◌}
-use Rattle.std.proofs.lemmas.Bool.{cond_both}
 use Rattle.std.proofs.lemmas.List.{length-append}
-use Rattle.cap_bounds.specs.CapValue.{is_tagged}
 use Rattle.origins.specs.declared.place.Place.{Place}
 use Rattle.hart.specs.Opening.{opening}
 use Rattle.steps.specs.State.{State}
@@ -11,12 +9,9 @@ use Rattle.steps.specs.declared.event.Event.{Event}
 use Rattle.steps.specs.declared.event.Event.TheVariants.{Step, Tick, Byte}
 use Rattle.machine.specs.Run.{run_after}
 use Rattle.origins.proofs.Last.{last-found}
-use Rattle.origins.proofs.Stays.{place-stays}
 use Rattle.origins.proofs.There.{step-there}
 use Rattle.origins.specs.Kept.{AreThere}
 use Rattle.origins.specs.Made.{made_at}
-use Rattle.origins.specs.Making.{source}
-use Rattle.origins.specs.Places.{IsThere, held}
 use Rattle.origins.specs.Search.{IsLast, done_at, loses, lost_at}
 use Rattle.origins.specs.declared.making.Making.{Making}
 use Rattle.origins.specs.declared.search.Found.{Found}
@@ -24,8 +19,7 @@ use Rattle.origins.specs.declared.search.Sought.{Sought}
 use Rattle.origins.specs.declared.search.Sought.TheVariants.{Written, Lost}
 use Rattle.past.specs.Given.{PastState, past_events, state_at}
 use Rattle.past.specs.Replay.{ReplayState}
-use Rattle.past.specs.Giving.{HasSameSize}
-use Rattle.origin_texts.specs.Origin.{last_among, onward, unless_tagged}
+use Rattle.origin_texts.specs.Origin.{last_among}
 
 -- ---- lists
 
@@ -98,22 +92,7 @@ module _ (sought : Sought) (place : Place) (n : ℕ) (past : PastState) (replay 
     pub there_now : AreThere found.making machine
     there_now = subst (λ s. AreThere found.making s) (sym stands) there
 
-    module _ (size : HasSameSize (opening past.image) machine) where
-      there_before : (from : Option Place) → IfSome from (λ p. IsThere p machine)
-          → IfSome (onward from found.before) (λ p. IsThere p.0 (opening past.image) × (p.1 < n))
-      there_before (Some p) is_there = (place-stays machine (opening past.image) (sym size) p is_there, early)
-      there_before None is_there = tt
-
-      pub source_before : IfSome (onward (source found.making) found.before) (λ p. IsThere p.0 (opening past.image) × (p.1 < n))
-      source_before = there_before (source found.making) there_now.0
-
-      untagged_there : (from : Option Place) → IfSome from (λ p. IsThere p machine)
-          → IfSome (unless_tagged machine from) (λ p. IsThere p machine)
-      untagged_there (Some p) is_there =
-          cond_both (is_tagged (held p machine)) None (Some p) (λ o. IfSome o (λ p. IsThere p machine)) (λ _. tt) (λ _. is_there)
-      untagged_there None is_there = tt
-
-      pub untagged_before : IfSome (onward (unless_tagged machine (source found.making)) found.before)
-          (λ p. IsThere p.0 (opening past.image) × (p.1 < n))
-      untagged_before =
-          there_before (unless_tagged machine (source found.making)) (untagged_there (source found.making) there_now.0)
+pub early_if : (sought : Sought) (place : Place) (n : ℕ) (past : PastState) (replay : Option ReplayState) (o : Option Found)
+    → o ≡ last_among past replay sought n place → IfSome o (λ f. f.before < n)
+early_if sought place n past replay (Some f) e = early sought place n past replay f (sym e)
+early_if sought place n past replay None e = tt

@@ -12,7 +12,8 @@ use Rattle.origins.specs.declared.search.Found.{Found}
 use Rattle.origins.specs.declared.making.Making.TheVariants.{Number}
 use Rattle.origin_texts.specs.declared.log.Link.{Link}
 use Rattle.origin_texts.specs.Chain.{Chain, History, chain, chain_by, follow_on, link_at, linked, whole_chain}
-use Rattle.origin_texts.specs.Log.{AreBefore, Ascends, IsHistory, IsIn, IsLog, Follows, LeadDown, above, chain_from, is_of, is_same, logged}
+use Rattle.origin_texts.specs.Log.{AreBefore, Ascends, Begins, IsHistory, IsIn, IsLog}
+use Rattle.origin_texts.specs.Log.{Follows, LeadDown, above, chain_from, is_of, is_same, logged}
 
 -- what is read past a log's end
 abbrev pub no_link : Link
@@ -27,6 +28,14 @@ pub record IsFollowed (w : History) (from to : ℕ) (log : List Link) (first : P
   pub finds : w.last_writer events place ≡ logged (take left log) place events (w.last_writer from place)
   pub chain : whole_chain w.last_writer first to ≡ above links (whole_chain w.last_writer place events)
   pub leads : LeadDown w to events links
+  pub begins : Begins first links (Some place)
+
+begins-snoc : (first place : Place) (ls : List Link) (l : Link) (next : Option Place) → Begins first ls (Some place) → l.place ≡ place
+    → Begins first (ls ++ l ∷ []) next
+begins-snoc first place [] l next is same =
+    let at : place ≡ first = cc in
+    same ∙ at
+begins-snoc first place (x ∷ xs) l next is same = is
 
 -- ---- logs
 
@@ -173,6 +182,7 @@ module _ (w : History) (is : IsHistory w) where
       finds = back false e;
       chain = is_followed.chain;
       leads = is_followed.leads;
+      begins = is_followed.begins;
     }
 
     module _ (e : is_of (get_or log i d) place events ≡ true) where
@@ -213,6 +223,7 @@ module _ (w : History) (is : IsHistory w) where
             chain = chained
                 ∙ ap (λ o. above (links ++ get_or log i d ∷ []) (chain_from w o (get_or log i d).found.before)) s;
             leads = leading;
+            begins = begins-snoc first place links (get_or log i d) (Some next) is_followed.begins same;
           }
 
       pub at_number : source (get_or log i d).found.making ≡ None → Follows w from to first (links ++ get_or log i d ∷ []) None
@@ -220,6 +231,8 @@ module _ (w : History) (is : IsHistory w) where
         chain = chained ∙ ap (λ o. above (links ++ get_or log i d ∷ []) (chain_from w o (get_or log i d).found.before)) s;
         are_links = record { low = (get_or log i d).found.before; leads = leading };
         there = tt;
+        begins = begins-snoc first place links (get_or log i d) None is_followed.begins same;
+        on = tt;
       }
 
   -- at the log's beginning
@@ -229,6 +242,8 @@ module _ (w : History) (is : IsHistory w) where
     chain = is_followed.chain ∙ ap (above links) (unwritten place events from is_followed.low is_followed.finds);
     are_links = record { low = events; leads = is_followed.leads };
     there = is_followed.there;
+    begins = is_followed.begins;
+    on = is_followed.finds;
   }
 
   -- at its end
@@ -243,4 +258,5 @@ module _ (w : History) (is : IsHistory w) where
         ∙ ap (λ l. logged l place to (w.last_writer from place)) (sym (take_all n log (omega (arith, all))));
     chain = refl;
     leads = refl;
+    begins = refl;
   }

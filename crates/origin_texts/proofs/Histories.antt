@@ -19,8 +19,10 @@ use Rattle.origins.specs.declared.place.Place.{Place}
 use Rattle.origins.specs.declared.search.Found.{Found}
 use Rattle.origins.specs.declared.search.Sought.{Sought}
 use Rattle.origins.specs.declared.search.Sought.TheVariants.{Written}
-use Rattle.past.specs.Given.{PastState, past_events, state_at}
+use Rattle.past.proofs.InOrder.{length-events_of}
+use Rattle.past.specs.Given.{PastState, count_of, past_events, state_at}
 use Rattle.past.specs.Giving.{HasSameSize}
+use Rattle.past.specs.Position.{beginning as beginning_of}
 use Rattle.past.specs.Replay.{ReplayState}
 use Rattle.origin_texts.specs.Chain.{chain, chain_by, no_links, whole_chain}
 use Rattle.origin_texts.specs.Log.{IsHistory, IsLog}
@@ -150,6 +152,9 @@ module _ (past : PastState) (replay : Option ReplayState) where
     among_all =
         let parts = ap length is_last.events_are ∙ length-append is_last.earlier (is_last.event ∷ is_last.later) in
         omega (arith, length_first n (past_events past replay), parts, is_last.count)
+
+    pub among_past : found.before < count_of past.given
+    among_past = let all = length-events_of past.given (beginning_of replay) in omega (arith, among_all, all)
 
     pub sources_there : AreThere found.making (state_at found.before past replay)
     sources_there = there Written place n past replay found is_found

@@ -1,9 +1,11 @@
+mod CallTracing
+mod Descending
 mod Facts
 mod Following
-mod Fuel
 mod Growing
 mod Histories
 mod Logging
+mod Losses
 mod Stretching
 mod Telling
 mod There

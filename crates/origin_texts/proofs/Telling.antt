@@ -14,6 +14,7 @@ use Rattle.origin_texts.specs.Stretches.{Told, stretch_text, stretch_texts, stre
 use Rattle.origin_texts.specs.declared.log.Link.{Link}
 use Rattle.origin_texts.specs.declared.stretch.Stretch.{Stretch}
 use Rattle.origin_texts.specs.declared.told.Told as raw
+use Rattle.origin_texts.specs.declared.told.Telling.TheVariants.{OfLinks}
 use Rattle.origin_texts.proofs.Stretching.{text_met}
 
 pub newest_first-snoc : (ts : List raw.Told) (t : raw.Told) → newest_first (ts ++ t ∷ []) ≡ as_told t ∷ newest_first ts
@@ -85,12 +86,19 @@ one_met old new more stretch later first all left before t are it stays text = r
       ∙ it.text rest;
 }
 
+-- all of them are met, and the stretch that is left is appended
+pub all_put : (old new put : List ℕ) (stretch : Stretch) (ts : List Told) → AreMet old new stretch [] ts
+    → ((links : List Told) → IsStretch stretch links → put ≡ new ++ stretch_text links) → put ≡ old ++ stretch_texts (stretches [] ts)
+all_put old new put stretch ts met puts =
+    puts met.links met.is ∙ ap (λ l. new ++ l) (sym (append-nil (stretch_text met.links))) ∙ met.text []
+    ∙ ap (λ l. old ++ stretch_texts (stretches [] l)) (append-nil ts)
+
 -- ---- a window
 
 module _ (symbols : List Symbol) (past : PastState) (replay : Option ReplayState) where
   pub window_put : (old new : List ℕ) (stretch later : Stretch) (links : List Link) (chain rest : Chain) (whole : List ℕ)
       → chain ≡ above links rest → IsPut symbols past replay old stretch chain whole
-      → ((first : List Told) → IsStretch stretch first → AreMet old new later first (map (told symbols past replay) links))
+      → ((first : List Told) → IsStretch stretch first → AreMet old new later first (map (told symbols past replay OfLinks) links))
       → IsPut symbols past replay new later rest whole
   window_put old new stretch later links chain rest whole is put meets =
       let it = meets put.links put.is in
@@ -98,14 +106,15 @@ module _ (symbols : List Symbol) (past : PastState) (replay : Option ReplayState
         links = it.links;
         is = it.is;
         text_is =
-            sym (append_assoc new (stretch_texts (stretches it.links (map (told symbols past replay) rest.links)))
+            sym (append_assoc new (stretch_texts (stretches it.links (map (told symbols past replay OfLinks) rest.links)))
             (opening_line symbols past rest.opening))
-            ∙ ap (λ l. l ++ opening_line symbols past rest.opening) (it.text (map (told symbols past replay) rest.links))
+            ∙ ap (λ l. l ++ opening_line symbols past rest.opening) (it.text (map (told symbols past replay OfLinks) rest.links))
             ∙ append_assoc old
-            (stretch_texts (stretches put.links (map (told symbols past replay) links ++ map (told symbols past replay) rest.links)))
+            (stretch_texts (stretches put.links
+            (map (told symbols past replay OfLinks) links ++ map (told symbols past replay OfLinks) rest.links)))
             (opening_line symbols past rest.opening)
             ∙ ap (λ l. old ++ (stretch_texts (stretches put.links l) ++ opening_line symbols past rest.opening))
-            (sym (map-append (told symbols past replay) links rest.links))
+            (sym (map-append (told symbols past replay OfLinks) links rest.links))
             ∙ ap (λ c. old ++ chain_text symbols past replay put.links c) (sym is)
             ∙ put.text_is;
       }

@@ -4,10 +4,17 @@ pub mod Stretches
 pub mod Chain
 pub mod Conditions
 pub mod Origin
+pub mod Copied
+pub mod Lost
 pub mod Calls
+pub mod CallTrace
 -- Inner words
 pub mod Asked
 pub mod Held
 pub mod Log
 pub mod Writes
 pub mod Put
+pub mod Copies
+pub mod Down
+pub mod CallTraced
+pub mod CallTraceLaws

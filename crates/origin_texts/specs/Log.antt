@@ -75,8 +75,16 @@ pub record AreLinks (h : History) (events : ℕ) (links : List Link) : Type 0 wh
   pub low : ℕ
   pub leads : LeadDown h events low links
 
+-- The first link is of the place that is followed; where there is none it is followed on.
+abbrev pub Begins : Place → List Link → Option Place → Type 0
+Begins place [] next = next ≡ Some place
+Begins place (l ∷ ls) next = l.place ≡ place
+
 -- What following a place through a log gives: the links, and the place that is followed before its events.
 pub record Follows (h : History) (from to : ℕ) (place : Place) (links : List Link) (next : Option Place) : Type 0 where
   pub chain : whole_chain h.last_writer place to ≡ above links (chain_from h next from)
   pub are_links : AreLinks h to links
   pub there : IfSome next (λ p. IsIn p h)
+  pub begins : Begins place links next
+  -- and nothing wrote the place that is followed on, down to there
+  pub on : IfSome next (λ p. h.last_writer are_links.low p ≡ h.last_writer from p)

@@ -1,11 +1,13 @@
 //! The calls that a session's past leaves open: who called whom and has not returned.
-ghost use Rattle.std.specs.Prelude.{◌≡◌, ◌++◌, ◌<◌, ◌^◌, ◌+◌, [], length, drop, IfOk, IfSome, IfNone, None, OnOk, Some, if◌then◌else◌, option_copied, string_bytes};
+ghost use Rattle.std.specs.Prelude.{◌≡◌, ◌++◌, ◌<◌, ◌^◌, ◌+◌, [], length, drop, if◌then◌else◌, string_bytes};
+ghost use Rattle.std.specs.Prelude.{IfOk, IfSome, IfNone, None, OnOk, Some, false, option_copied};
 ghost use Rattle.std.specs.List.{flat_map};
 ghost use Rattle.steps.specs.Applying.{IsPlanned, meant};
 ghost use Rattle.steps.specs.Event.{after};
 ghost use Rattle.steps.specs.Step.{insn_fetched, step_fetched};
 ghost use Rattle.steps.specs.declared.event.Event.TheVariants.{Step};
 ghost use Rattle.hart.specs.Opening.{opening};
+ghost use Rattle.schedules.specs.Schedule.{is_halted};
 ghost use Rattle.origin_texts.specs.Calls as spec;
 
 use cap_bounds::CapRep;
@@ -242,6 +244,27 @@ fn note_effect<C: CapRep>(
     }
 }
 
+/// Notes what the next step of a machine makes of the calls, which is planned, in the event of this number.
+pub(crate) fn note_step<C: CapRep>(
+    stack: &mut VecDeque<Call>,
+    machine: &Machine<C>,
+    planned: &Planned<C>,
+    number: u64,
+) -> Result<(), AllocError>
+    requires planned { IsPlanned C.value planned.now.effect machine.now }
+    requires fetched { planned.now.fetched ≡ step_fetched machine.now }
+    requires running { is_halted machine.now ≡ false }
+    ensures { OnOk result (stack.new.items ≡ spec.calls_at Step number machine.now stack.old.items) }
+{
+    note_effect(
+        stack,
+        machine.hart(),
+        &planned.effect,
+        planned.fetched.insn(),
+        number,
+    )
+}
+
 /// Meets an event of this number.
 fn meet<C: CapRep>(
     stack: &mut VecDeque<Call>,
@@ -255,13 +278,7 @@ fn meet<C: CapRep>(
     match event {
         Event::Step if machine.halted().is_none() => {
             let planned = machine.next();
-            note_effect(
-                stack,
-                machine.hart(),
-                &planned.effect,
-                planned.fetched.insn(),
-                number,
-            )?;
+            note_step(stack, machine, &planned, number)?;
             machine.apply(planned);
             Ok(())
         }
@@ -354,7 +371,11 @@ fn append_target(text: &mut String, symbols: &Symbols, call: Call) -> Result<(),
 
 /// Appends the line of a call.
 #[tactic(auto, unfolding(crate::specs::Calls::call_line))]
-fn append_call(text: &mut String, symbols: &Symbols, call: Call) -> Result<(), AllocError>
+pub(crate) fn append_call(
+    text: &mut String,
+    symbols: &Symbols,
+    call: Call,
+) -> Result<(), AllocError>
     ensures { OnOk result (string_bytes text.new ≡ string_bytes text.old ++ spec.call_line symbols.now call) }
 {
     append_source(text, symbols, call)?;

@@ -93,36 +93,6 @@ pub(crate) fn source_text<C: CapRep>(
     source
 }
 
-/// Appends the line of an event that wrote a place, which is the machine's next step. It is done on the way.
-#[tactic(auto, unfolding(crate::specs::Link::link_text))]
-pub(crate) fn append_link<C: CapRep>(
-    text: &mut String,
-    symbols: &Symbols,
-    machine: &mut Machine<C>,
-    place: Place,
-    found: Found,
-) -> Result<(), AllocError>
-    requires few { found.before < 2 ^ 64 - 1 }
-    requires there { IsThere place machine.old }
-    requires source { IfSome (source found.making) (λ from. IsThere from machine.old) }
-    ensures { OnOk result (string_bytes text.new ≡ string_bytes text.old ++ link_text symbols.now place found machine.old) }
-{
-    let planned = machine.next();
-    let line = trace_line(symbols, found.before + 1, machine.hart(), &planned);
-    let name = place_text(symbols, place);
-    let source = source_text(symbols, machine, planned, place, found.making);
-    append(
-        text,
-        &[
-            Text(name.as_str()),
-            Text(" from "),
-            Text(source.as_str()),
-            Text(": "),
-            Text(line.as_str()),
-        ],
-    )
-}
-
 /// What stands before what a place holds in an opening state.
 fn opening_name(place: Place) -> &'static str
     ensures { result.now ≡ opening_name place }

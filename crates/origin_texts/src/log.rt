@@ -11,7 +11,7 @@ ghost use Rattle.origin_texts.specs.Origin.{history};
 ghost use Rattle.origin_texts.specs.Writes as spec;
 ghost use Rattle.origin_texts.specs.Writes.{IsGrown, made_there, noted};
 
-use crate::opening::opening_machine;
+use crate::states::opening_machine;
 use base::{is_scr, scr};
 use cap_bounds::CapRep;
 use machine::{Event, Machine, Planned};
@@ -95,7 +95,7 @@ fn written_by<C: CapRep>(effect: &Effect<C>) -> [Place; 4]
 }
 
 /// Whether there is such a place.
-fn is_in<C: CapRep>(machine: &Machine<C>, place: Place) -> bool
+pub(crate) fn is_in<C: CapRep>(machine: &Machine<C>, place: Place) -> bool
     ensures { result ≡ spec.is_in machine.now place }
 {
     match place {

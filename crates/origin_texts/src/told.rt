@@ -7,11 +7,15 @@ ghost use Rattle.steps.specs.Applying.{IsPlanned};
 ghost use Rattle.steps.specs.Event.{after};
 ghost use Rattle.steps.specs.Step.{step_fetched};
 ghost use Rattle.steps.specs.declared.event.Event.TheVariants.{Step};
+ghost use Rattle.origins.specs.Kept.{AreThere};
 ghost use Rattle.origins.specs.Making.{source};
 ghost use Rattle.origins.specs.Places.{IsThere};
 ghost use Rattle.origin_texts.specs.Held.{as_told};
+ghost use Rattle.origin_texts.specs.declared.told.Telling.TheVariants.{OfLosses};
 ghost use Rattle.origin_texts.specs.Link as spec;
+ghost use Rattle.origin_texts.specs.Origin.{told_at};
 
+use crate::conditions::append_conditions;
 use crate::link::source_text;
 use crate::log::Link;
 use crate::place::place_text;
@@ -21,6 +25,7 @@ use disassembler::disassemble;
 use explain::trace_line;
 use hart::Hart;
 use machine::{Machine, Planned};
+use origins::tag_asked;
 use std::alloc::{AllocError, Global};
 use steps::Fetched;
 use symbols::{Symbols, labelled};
@@ -36,6 +41,15 @@ pub struct Told {
     pub step: String,
     /// The whole line.
     pub line: String,
+}
+
+/// What is told of links.
+#[derive(Clone, Copy, Debug, PartialEq, Eq)]
+pub enum Telling {
+    /// Where a value came from.
+    OfLinks,
+    /// That and the conditions of the tag.
+    OfLosses,
 }
 
 /// The word that a step fetches and its text in a mode, or `-`.
@@ -87,7 +101,7 @@ fn step_text<C: CapRep>(
 
 /// What is told of a link, whose event is the machine's next step. It is done on the way.
 #[tactic(auto, unfolding(crate::specs::Link::link_text))]
-pub(crate) fn tell<C: CapRep>(
+fn tell_link<C: CapRep>(
     alloc: Global,
     symbols: &Symbols,
     machine: &mut Machine<C>,
@@ -119,4 +133,45 @@ pub(crate) fn tell<C: CapRep>(
         ],
     )?;
     Ok(Told { source, step, line })
+}
+
+/// The same, and the conditions of the tag of what the step wrote.
+fn tell_loss<C: CapRep>(
+    alloc: Global,
+    symbols: &Symbols,
+    machine: &mut Machine<C>,
+    link: Link,
+) -> Result<Told, AllocError>
+    requires few { link.found.before < 2 ^ 64 - 1 }
+    requires there { IsThere link.place machine.old }
+    requires sources { AreThere link.found.making machine.old }
+    ensures told { IfOk result (λ told. as_told told ≡ told_at OfLosses symbols.now link.place link.found machine.old) }
+    ensures state { OnOk result (machine.new ≡ after Step machine.old) }
+{
+    let asked = tag_asked(alloc, machine, link.found.making)?;
+    let mut conditions = String::new(alloc);
+    append_conditions(&mut conditions, symbols, machine, &asked)?;
+    let mut told = tell_link(alloc, symbols, machine, link)?;
+    append(&mut told.line, &[Text(conditions.as_str())])?;
+    Ok(told)
+}
+
+/// What is told of a link, whose event is the machine's next step. It is done on the way.
+pub(crate) fn tell<C: CapRep>(
+    telling: Telling,
+    alloc: Global,
+    symbols: &Symbols,
+    machine: &mut Machine<C>,
+    link: Link,
+) -> Result<Told, AllocError>
+    requires few { link.found.before < 2 ^ 64 - 1 }
+    requires there { IsThere link.place machine.old }
+    requires sources { AreThere link.found.making machine.old }
+    ensures told { IfOk result (λ told. as_told told ≡ told_at telling symbols.now link.place link.found machine.old) }
+    ensures state { OnOk result (machine.new ≡ after Step machine.old) }
+{
+    match telling {
+        Telling::OfLinks => tell_link(alloc, symbols, machine, link),
+        Telling::OfLosses => tell_loss(alloc, symbols, machine, link),
+    }
 }

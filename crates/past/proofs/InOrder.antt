@@ -72,14 +72,14 @@ take-two (suc n) (x ∷ xs) ys h =
     let less : n - length xs ≡ suc n - suc (length xs) = omega arith in
     ap (λ l. x ∷ l) (take-two n xs ys (omega arith) ∙ ap (λ m. xs ++ take m ys) less)
 
-first_test : (g : Given) (gs : List Given) (n : ℕ) (b : Bool) → nat_le (count_of_one g) n ≡ b
+pub first_test : (g : Given) (gs : List Given) (n : ℕ) (b : Bool) → nat_le (count_of_one g) n ≡ b
     → first_of n (g ∷ gs) ≡ (if b then g ∷ first_of (n - count_of_one g) gs else cut n g)
 first_test g gs n b e = rw e refl
 
-le_from : (m n : ℕ) → nat_le m n ≡ true → m ≤ n
+pub le_from : (m n : ℕ) → nat_le m n ≡ true → m ≤ n
 le_from m n h = grind (arith, nat_tests)
 
-lt_from : (m n : ℕ) → nat_le m n ≡ false → n < m
+pub lt_from : (m n : ℕ) → nat_le m n ≡ false → n < m
 lt_from m n h = grind (arith, nat_tests)
 
 cut_events : (n : ℕ) (g : Given) (p : Position) → n < count_of_one g → events_of (cut n g) p ≡ take n (events_of_one g p)
@@ -129,7 +129,7 @@ first_events n (g ∷ gs) p = go (first_events (n - count_of_one g) gs (position
         ∙ sym (take-part n g p (events_of gs (position_after_one g p)) (lt_from (count_of_one g) n e))
 
 -- none of them lead nowhere else
-none_position : (gs : List Given) (p : Position) → position_of (first_of 0 gs) p ≡ p
+pub none_position : (gs : List Given) (p : Position) → position_of (first_of 0 gs) p ≡ p
 none_position [] p = refl
 none_position (g ∷ gs) p = go (none_position gs p) (nat_le (count_of_one g) 0) refl
   where

@@ -58,7 +58,7 @@ some_split (suc k) (suc n) g p h =
     ap (λ es. next_of g p ∷ es) (some_split k n g (place_of g p) (omega arith)
     ∙ ap (λ m. some_of k g (place_of g p) ++ some_of m g (place_after k g (place_of g p))) less)
 
-place_split : (k n : ℕ) (g : Given) (p : Position) → k ≤ n → place_after n g p ≡ place_after (n - k) g (place_after k g p)
+pub place_split : (k n : ℕ) (g : Given) (p : Position) → k ≤ n → place_after n g p ≡ place_after (n - k) g (place_after k g p)
 place_split zero n g p h =
     let all : n ≡ n - 0 = omega arith in
     ap (λ m. place_after m g p) all

@@ -4,4 +4,5 @@ pub mod Position
 pub mod Given
 -- Inner words
 pub mod Giving
+pub mod Anchor
 pub mod Seeking

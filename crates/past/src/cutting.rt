@@ -1,6 +1,7 @@
-//! The first events of commands.
-ghost use Rattle.std.specs.Prelude.{◌≡◌, ◌+◌, ◌<◌, ◌≤◌, ◌++◌, [], ◌∷◌, IfSome, length, option_to_list, take};
+//! The first events of commands, and those after them.
+ghost use Rattle.std.specs.Prelude.{◌≡◌, ◌+◌, ◌<◌, ◌≤◌, ◌++◌, [], ◌∷◌, IfSome, IfNone, length, option_to_list, take};
 ghost use Rattle.past.specs.Given.{but_last, count_of, count_of_one, cut, first_of};
+ghost use Rattle.past.specs.Giving.{after_first, rest_of};
 
 use crate::given::{Given, count_of_one};
 
@@ -53,6 +54,44 @@ pub(crate) fn keep_first(all: &mut Vec<Given>, n: u64)
         }
         None => all.truncate(whole),
     }
+}
+
+/// What is left of a command after its first `n` events, fewer than it gave.
+fn rest_of(n: u64, given: Given) -> Given
+    requires { n ≤ count_of_one given }
+    ensures { result ≡ rest_of n given }
+{
+    match given {
+        Given::Steps(m) => Given::Steps(m - n),
+        Given::Ticks(m) => Given::Ticks(m - n),
+        Given::Byte(byte) => Given::Byte(byte),
+    }
+}
+
+/// What is left of commands after their first events: of one command, and the commands after it.
+#[derive(Drop)]
+pub(crate) struct Rest<'a> {
+    pub(crate) given: Given,
+    pub(crate) later: &'a [Given],
+}
+
+/// What is left of commands after their first `n` events.
+pub(crate) fn after_first<'a>(all: &'a [Given], n: u64) -> Option<Rest<'a>>
+    ensures some { IfSome result (λ rest. after_first n all.now ≡ rest.given ∷ rest.later.now) }
+    ensures none { IfNone result (after_first n all.now ≡ []) }
+{
+    let mut left = n;
+    let mut rest = all;
+    while let [given, later @ ..] = rest {
+        let count = count_of_one(*given);
+        if left < count {
+            let given = rest_of(left, *given);
+            return Some(Rest { given, later });
+        }
+        left -= count;
+        rest = later;
+    }
+    None
 }
 
 /// Puts a command in place of the last, and answers that one.

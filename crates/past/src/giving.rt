@@ -3,9 +3,10 @@ ghost use Rattle.std.specs.Prelude.{◌≡◌, option_copied, replicate, take};
 ghost use Rattle.steps.specs.declared.event.Event.TheVariants.{Step};
 ghost use Rattle.machine.specs.Run.{run_after};
 ghost use Rattle.past.specs.Given.{events_of, first_of, position_of};
-ghost use Rattle.past.specs.Giving.{HasSameSize, next_of, place_after, place_of, some_of};
+ghost use Rattle.past.specs.Giving.{HasSameSize, after_first, next_of, place_after, place_of, some_of};
 ghost use Rattle.past.specs.Position.{MayGive, beginning};
 
+use crate::cutting::after_first;
 use crate::given::{Given, count_of_one};
 use crate::player::Player;
 use crate::replay::Replay;
@@ -80,7 +81,27 @@ fn give_first<C: CapRep>(machine: &mut Machine<C>, player: &mut Player, all: &[G
     }
 }
 
-/// The same from the beginning of a session's steps. Answers where they stand after it.
+/// Gives `n` events more to a machine that was given the first of commands, `from` of them.
+pub(crate) fn give_after<C: CapRep>(
+    machine: &mut Machine<C>,
+    player: &mut Player,
+    all: &[Given],
+    from: u64,
+    n: u64,
+)
+    requires { MayGive n player.old }
+    ensures state { machine.new ≡ run_after (take n (events_of (after_first from all.now) player.old)) machine.old }
+    ensures position { player.new ≡ position_of (first_of n (after_first from all.now)) player.old }
+    ensures size { HasSameSize machine.old machine.new }
+{
+    if let Some(rest) = after_first(all, from) {
+        let some = count_of_one(rest.given).min(n);
+        give(machine, player, rest.given, some);
+        give_first(machine, player, rest.later, n - some);
+    }
+}
+
+/// The same as `give_first` from the beginning of a session's steps. Answers where they stand after it.
 pub(crate) fn give_from_beginning<'a, C: CapRep>(
     machine: &mut Machine<C>,
     replay: Option<&'a Replay>,

@@ -1,6 +1,7 @@
 //! What a session was given since the opening state of its image, and the states that it went through.
 #![tactic(auto)]
 
+mod anchor;
 mod cutting;
 mod events;
 mod given;
@@ -11,6 +12,7 @@ mod player;
 mod replay;
 mod seeking;
 
+pub use anchor::Anchor;
 pub use events::PastEvents;
 pub use given::Given;
 pub use past::Past;

@@ -1,6 +1,6 @@
 //! The events of a session's steps, one after the other.
 ghost use Rattle.std.specs.Prelude.{◌≡◌, IfSome, IsTrue, None, false, option_copied, option_map};
-ghost use Rattle.past.specs.Position.{at, beginning, next_event, next_position, MayGive};
+ghost use Rattle.past.specs.Position.{at, beginning, next_event, next_position, standing_at, MayGive};
 ghost use Rattle.past.specs.Replay.{byte_due, is_tick_due, step_done};
 
 use crate::replay::Replay;
@@ -37,6 +37,18 @@ impl<'a> Player<'a> {
             done: 0,
             brought: false,
             owed: false,
+        }
+    }
+
+    /// Where so many steps of the schedule were given, if there is one, and the byte before the next step or not.
+    pub(crate) fn standing(replay: Option<&'a Replay>, done: u64, brought: bool, owed: bool) -> Self
+        ensures { result ≡ at (option_map (standing_at done brought) (option_copied replay.entry)) owed }
+    {
+        Player {
+            replay,
+            done,
+            brought,
+            owed,
         }
     }
 

@@ -45,12 +45,12 @@ HasStatus (Asm input output symbols lines quiet) typed change told status =
 HasStatus (Image flat output layout quiet) typed change told status =
     (status ≡ 0) × (told ≡ []) × (change.out ≡ change.sent)
     × IfSome (bytes_of flat.now change.old) (λ bytes. MakesImage layout output.now bytes change.old change.new)
-HasStatus (Go request why profile) typed change told status =
+HasStatus (Go request why reports) typed change told status =
     (ended : Ended) × (status ≡ status_of ended.end) × (told ≡ end_text request.json ended)
-    × RunsFile request profile (stop_at why) ended change
-HasStatus (Run request why profile) typed change told status =
+    × RunsFile request reports (stop_at why) ended change
+HasStatus (Run request why reports) typed change told status =
     (ended : Ended) × (status ≡ status_of ended.end) × (told ≡ end_text request.json ended)
-    × RunsFile request profile (stop_at why) ended change
+    × RunsFile request reports (stop_at why) ended change
 HasStatus (Audit request) typed change told status =
     (count : ℕ) × (status ≡ (if count == 0 then 0 else 1)) × (told ≡ []) × AuditsRun request count change
 HasStatus (Prove request) typed change told status =
@@ -71,8 +71,8 @@ HasStatus First typed change told status =
 abbrev pub FailsAs : Plan → Option (List File) → Option (List File) → ProgramFault → Type 0
 FailsAs (Asm input output symbols lines quiet) old new fault = FailsToAssemble input.now output.now symbols lines old new fault
 FailsAs (Image flat output layout quiet) old new fault = FailsToImage layout flat.now output.now old new fault
-FailsAs (Go request why profile) old new fault = FailsToRun request profile (stop_at why) old new fault
-FailsAs (Run request why profile) old new fault = FailsToRun request profile (stop_at why) old new fault
+FailsAs (Go request why reports) old new fault = FailsToRun request reports (stop_at why) old new fault
+FailsAs (Run request why reports) old new fault = FailsToRun request reports (stop_at why) old new fault
 FailsAs (Audit request) old new fault = FailsToAudit request old new fault
 FailsAs (Prove request) old new fault = FailsToProve request old fault × (new ≡ old)
 FailsAs (Dis image symbols header quiet) old new fault = FailsToList image.now symbols old fault × (new ≡ old)

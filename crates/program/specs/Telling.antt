@@ -27,8 +27,8 @@ done_text _ = []
 abbrev pub is_quiet : Plan → Bool
 is_quiet (Asm input output symbols lines quiet) = quiet
 is_quiet (Image flat output layout quiet) = quiet
-is_quiet (Go request why profile) = request.quiet
-is_quiet (Run request why profile) = request.quiet
+is_quiet (Go request why reports) = request.quiet
+is_quiet (Run request why reports) = request.quiet
 is_quiet (Audit request) = request.quiet
 is_quiet (Prove request) = request.quiet
 is_quiet (Dis image symbols header quiet) = quiet

@@ -17,7 +17,7 @@ ghost use Rattle.commands.specs.Overwriting.{Overwrites};
 ghost use Rattle.commands.specs.Watching.{RunsFile};
 
 use crate::debugging::debug_file;
-use command_line::{Plan, PlanFault, RunRequest, plan};
+use command_line::{Plan, PlanFault, Reports, RunRequest, plan};
 use commands::{
     Ended, Folder, ProgramFault, assemble_file, audit_file, image_file, list_file, load,
     overwrites, prove_file, put_fault, run_first, run_loaded, show_bounds, show_word, stop_at,
@@ -114,23 +114,23 @@ fn is_quiet(plan: Plan<'_>) -> bool
     }
 }
 
-/// Runs the image of a file as it is asked for. It ends before the trap that it is to stop `at`, if any. Its profile is written to the file
-/// `profile`, if one is named. Hands the output back.
+/// Runs the image of a file as it is asked for. It ends before the trap that it is to stop `at`, if any. Its `reports` are written, where
+/// files are named for them. Hands the output back.
 fn run_file<'a, F: Folder, O: Write + Drop>(
     alloc: Global,
     folder: &mut F,
     request: RunRequest<'a>,
-    profile: Option<&'a str>,
+    reports: Reports<'a>,
     at: Option<StopAt>,
     output: O,
 ) -> Result<(Ended, O), ProgramFault<'a>>
     requires { AreInRange request }
-    ensures ok { IfOk result (λ done. RunsFile request.entry profile.entry at done.0
+    ensures ok { IfOk result (λ done. RunsFile request.entry reports.entry at done.0
         (changed (O.contents output) (O.contents done.1) (F.files folder.old) (F.files folder.new))) }
-    ensures err { IfErr result (FailsToRun request.entry profile.entry at (F.files folder.old) (F.files folder.new)) }
+    ensures err { IfErr result (FailsToRun request.entry reports.entry at (F.files folder.old) (F.files folder.new)) }
 {
     match load(alloc, folder, request) {
-        Ok(run) => run_loaded(alloc, folder, &run, profile, at, output),
+        Ok(run) => run_loaded(alloc, folder, &run, reports, at, output),
         Err(fault) => Err(fault),
     }
 }
@@ -157,17 +157,17 @@ fn carry_out<'a, F: Folder, I: Read + Drop, O: Write + Drop>(
         Plan::Go {
             request,
             why,
-            profile,
+            reports,
         } => {
-            let (ended, output) = run_file(alloc, folder, request, profile, stop_at(why), output)?;
+            let (ended, output) = run_file(alloc, folder, request, reports, stop_at(why), output)?;
             Ok((Done::Run(ended, request.json), output))
         }
         Plan::Run {
             request,
             why,
-            profile,
+            reports,
         } => {
-            let (ended, output) = run_file(alloc, folder, request, profile, stop_at(why), output)?;
+            let (ended, output) = run_file(alloc, folder, request, reports, stop_at(why), output)?;
             Ok((Done::Run(ended, request.json), output))
         }
         Plan::Audit(request) => {

@@ -12,7 +12,7 @@ from model.schedules import Schedule
 from model.texts import machine_of
 from trying.paths import below
 
-EXAMPLES = ("window", "narrow")
+EXAMPLES = ("window", "narrow", "copy")
 
 
 def example(name):

@@ -74,7 +74,7 @@ class Chains(unittest.TestCase):
             "  ok seal of ca1", f"  no window of ca1: {1 << 40:016x}{LABEL}"])
 
     def test_a_number_loses_a_tag_and_what_had_none_loses_nothing(self):
-        self.assertEqual(lost(self.events, A0), ["ca0 from no capability: 6 step 6", "  no a capability is written"])
+        self.assertEqual(lost(self.events, A0), ["no tag was lost at ca0"])
         self.assertEqual((losses(self.events, A2), lost(self.events[:3], AT)), ([], [f"no tag was lost at {RAM:016x}{LABEL}"]))
 
 

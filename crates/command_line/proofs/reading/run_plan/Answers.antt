@@ -18,7 +18,7 @@ its_count-requires-2 c = count_there _ _ _ _ _ _ c.requires.1.1.0 refl
 pub run_request-requires : goal.run_request-requires
 unfolding commands
 run_request-requires c =
-    let rest = c.requires.1.1.1 in (rest.0, (rest.1.0, (rest.1.1.0, (rest.1.1.1.0, rest.1.1.1.1.1.1.1))))
+    let rest = c.requires.1.1.1 in (rest.0, (rest.1.0, (rest.1.1.0, (rest.1.1.1.0, rest.1.1.1.1.1.1.1.1))))
 
 pub returns : goal.returns
 unfolding commands
@@ -30,8 +30,9 @@ returns c =
     ∙ ap (λ n. Some (Amount (Some n))) (sym c.run_request.ensures.steps.0) in
     let times = count_said _ _ _ _ _ _ _ c.requires.1.1.0 c.its_count-2.ensures
     ∙ ap (λ n. Some (Amount (Some n))) (sym c.run_request.ensures.steps.1) in
-    let json = flag_said _ _ _ _ _ c.requires.1.1.1.1.1.1.1.1.1.0 c.flag.ensures
+    let json = flag_said _ _ _ _ _ c.requires.1.1.1.1.1.1.1.1.1.1.0 c.flag.ensures
     ∙ ap (λ b. Some (Used b)) (sym c.run_request.ensures.json) in
     let ends = ends_said _ _ _ _ _ c.requires.1.1.1.1.1.1.1.0 c.ends.ensures in
     let profile = file_said _ _ _ _ _ _ c.requires.1.1.1.1.1.1.1.1.0 refl c.text.ensures in
-    (refl, (image, (steps, (times, (run.0, (run.1.0, (run.1.1.0, (run.1.1.1.0, (ends, (profile, (json, run.1.1.1.1)))))))))))
+    let calls = file_said _ _ _ _ _ _ c.requires.1.1.1.1.1.1.1.1.1.0 refl c.text-2.ensures in
+    (refl, (image, (steps, (times, (run.0, (run.1.0, (run.1.1.0, (run.1.1.1.0, (ends, (profile, (calls, (json, run.1.1.1.1))))))))))))

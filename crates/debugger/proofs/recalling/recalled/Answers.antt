@@ -6,5 +6,5 @@ use Rattle.debugger.proofs.recalling.recalled.Goals as goal
 
 pub append_recalled-requires : goal.append_recalled-requires
 append_recalled-requires g c =
-    recalled_in_time c.args.recall _ c.in-Some.past c.timeline.invariant c.in-Some.is c.requires.limits
+    recalled_in_time c.args.recall _ c.in-Some.past c.timeline.invariant.past c.in-Some.is c.requires.limits
     (ap (λ t. is_outside (Recalls c.args.recall) t.machine) c.timeline.view_is ∙ c.requires.inside)

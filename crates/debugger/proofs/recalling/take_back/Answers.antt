@@ -1,12 +1,14 @@
-use Rattle.std.proofs.Common.{◌≡◌, ◌-◌, ◌&&◌, not, sym, ap, ap₂, ◌∙◌, subst}
+use Rattle.std.proofs.Common.{◌≡◌, ◌-◌, ◌&&◌, not, sym, ap, ap₂, ◌∙◌, subst, arith}
 use Rattle.std.specs.Prelude.{Some, is_some}
 use Rattle.past.specs.Given.{first_of, position_at, state_at}
 use Rattle.past.specs.Position.{beginning}
 use Rattle.schedules.specs.Schedule.{is_halted}
-use Rattle.debugger.specs.Keeping.{timeline}
+use Rattle.past.specs.Anchor.{IsKeptOn}
+use Rattle.debugger.specs.Keeping.{IsAnchored, timeline}
 use Rattle.debugger.specs.Reply.{left_of}
-use Rattle.debugger.specs.SessionState.{HasItsPast}
-use Rattle.debugger.proofs.Backs.{none_stands, none_there, same_beginning, stands, stands_back, taken}
+use Rattle.debugger.specs.SessionState.{HasItsPast, TimelineState}
+use Rattle.past.proofs.Beginnings.{none_stands, same_beginning, stands}
+use Rattle.debugger.proofs.Backs.{anchored_back, none_there, stands_back, taken}
 use Rattle.debugger.proofs.recalling.take_back.Goals as goal
 use Rattle.debugger.proofs.recalling.take_back.Goals.{in-Some, in_default-replay, then-is_owed, else-is_owed}
 
@@ -48,3 +50,15 @@ returns-clause-stands c =
     let past = c.args.past.now in
     let back = timeline c.args.machine.now c.args.replay.now c.args.owed.now (Some past) in
     subst HasItsPast (sym (returns-clause-state c)) (stands_back (left_of c.args.events past) past back)
+
+pub returns-clause-anchor : goal.returns-clause-anchor
+returns-clause-anchor c =
+    let past = c.args.past.now in
+    let replay = c.args.replay.now in
+    let anchor = c.machine_by.new.anchor in
+    let n = left_of c.args.events past in
+    let left : c.count.result - c.args.events ≡ n = ap (λ k. k - c.args.events) c.count.ensures.value in
+    let kept = subst (λ k. IsKeptOn k anchor past replay) left
+    (subst (λ r. IsKeptOn (c.count.result - c.args.events) anchor past r) c.as_ref.ensures.value c.machine_by.ensures.kept) in
+    subst (λ (time : TimelineState). IsAnchored anchor time.past time.replay) (sym (returns-clause-state c))
+    (anchored_back n anchor past replay (omega arith) kept)

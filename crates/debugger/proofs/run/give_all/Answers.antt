@@ -1,11 +1,11 @@
 use Rattle.std.proofs.Common.{◌≤◌, ap, ap₂, sym, subst, ◌∙◌}
 use Rattle.std.specs.Prelude.{option_map}
 use Rattle.past.specs.Given.{count_of_one}
-use Rattle.debugger.specs.Keeping.{HasBegun, kept_last}
+use Rattle.debugger.specs.Keeping.{HasBegun, IsAnchored, kept_last}
 use Rattle.debugger.specs.Reply.{after_events, given, given_at}
 use Rattle.debugger.specs.SessionState.{HasItsPast, TimelineState}
 use Rattle.debugger.specs.Marked.{seen}
-use Rattle.debugger.proofs.Begun.{all_same, given_few, has_begun, kept_begun, stays_there}
+use Rattle.debugger.proofs.Begun.{all_same, given_few, has_begun, kept_begun, stays_anchored, stays_there}
 use Rattle.debugger.proofs.run.give_all.Goals as goal
 
 pub keep-requires-clause-begun : goal.keep-requires-clause-begun
@@ -29,7 +29,11 @@ invariant_of-timeline-2 g c =
     ∙ kept_begun t.past c.args.events es c.give-count.result ensured.count in
     let same = all_same t.past t.replay t.owed t.machine c.args.events es c.keep.new.past new.replay new.owed new.machine ensured.state
     ensured.replay ensured.owed kept in
-    subst HasItsPast (sym same) (stays_there t.past t.replay t.owed t.machine c.args.events marks c.timeline.invariant)
+    record {
+      past = subst HasItsPast (sym same) (stays_there t.past t.replay t.owed t.machine c.args.events marks c.timeline.invariant.past);
+      anchored = subst (λ (time : TimelineState). IsAnchored t.anchor time.past time.replay) (sym same)
+          (stays_anchored t.anchor t.past t.replay c.args.events es c.timeline.invariant.anchored);
+    }
 
 pub returns-clause-state : goal.returns-clause-state
 returns-clause-state g c =

@@ -1,0 +1,12 @@
+use Rattle.std.proofs.Common.{ap, sym, subst, ◌∙◌, rules}
+use Rattle.std.specs.Prelude.{IfSome}
+use Rattle.steps.specs.FetchedLaws.{registers_fetched}
+use Rattle.steps.specs.Looks.{HasRegisters}
+use Rattle.steps.specs.Step.{insn_fetched}
+use Rattle.origin_texts.proofs.copied.next_loaded.Goals as goal
+
+pub loaded_by-requires : goal.loaded_by-requires
+loaded_by-requires g c = (
+  search rules,
+  subst (λ o. IfSome o HasRegisters) (sym (c.insn.ensures ∙ ap insn_fetched c.next-planned.ensures.fetched)) (registers_fetched _ _),
+)
