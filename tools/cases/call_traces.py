@@ -27,6 +27,10 @@ def steps_to(text, address):
     return done
 
 
+# Calls within 70 others; then each returns to a return.
+DEEP = "addi a0, zero, 70; jal ra, f; nop; f: addi a0, a0, -1; beq a0, zero, out; jal ra, f; out: ret"
+
+
 def plain():
     yield "# a call and its return, each with the number of its event; calls within calls, and a function that calls itself"
     yield run(COUNTS_DOWN, 16, status=0, told="")
@@ -34,6 +38,8 @@ def plain():
     for steps in (1, 2, 5, 14, 30):
         yield run(RECURSES, steps)
     yield run(RECURSES, 30, labels=[(RAM + 16, "f"), (RAM + 36, "out")])
+    yield "# 64 calls around a line are shown at most"
+    yield run(DEEP, 280)
     yield "# a return that ends more than one call is a line, where the oldest of them stands"
     yield run(LEAVES, 6)
     yield "# links in several registers; a jump that calls nothing"

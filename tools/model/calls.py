@@ -5,6 +5,7 @@ from model.capabilities import is_unsealed
 from model.origins import placed
 
 JUMPS = ("jal", "jalr", "jalr.cap", "cinvoke")
+LEVELS = 64  # that are shown of calls around a line
 SENTRY, PAIR = "called through a sentry", "called through a pair"
 
 
@@ -67,13 +68,13 @@ def lines(events):
 
 
 def told(events):
-    """The calls and returns of events in order, each after two spaces for each call that is open around it."""
+    """The calls and returns of events in order, each after two spaces for each call that is open around it, of LEVELS at most."""
     calls, found = [], []
     for number, event in enumerate(events, 1):
         left = after_event(calls, number, event)
         if len(left) > len(calls):
-            found.append("  " * len(calls) + str(left[-1]))
+            found.append("  " * min(len(calls), LEVELS) + str(left[-1]))
         elif len(left) < len(calls):
-            found.append("  " * len(left) + f"{number} {placed(event.before.pcc[1])} returned to {placed(event.after.pcc[1])}")
+            found.append("  " * min(len(left), LEVELS) + f"{number} {placed(event.before.pcc[1])} returned to {placed(event.after.pcc[1])}")
         calls = left
     return found

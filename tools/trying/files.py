@@ -65,7 +65,7 @@ FILES = [
     File("listings", command_lines.listing, 42),
     File("worlds", programs.worlds, 14),
     File("schedules", schedules.schedule, 211, piece=8),
-    File("commands", commands.command, 867, piece=20),
+    File("commands", commands.command, 868, piece=20),
     File("objects", commands.command, 173, piece=20),
     File("policies", commands.command, 363, piece=20),
     File("callers", commands.command, 81, piece=20),

@@ -1,6 +1,6 @@
--- The calls and returns of a run, in order: a line for each, after two spaces for each call that is open around it.
+-- The calls and returns of a run, in order: a line for each, after two spaces for each call that is open around it, of 64 at most.
 -- What an event does is seen by the calls that are open before and after it (specs/Calls): by a call they are more, by a return fewer.
-use Rattle.std.specs.Prelude.{ℕ, zero, suc, nat_lt, if◌then◌else◌, List, [], ◌∷◌, ◌++◌, length, codes, decimal}
+use Rattle.std.specs.Prelude.{ℕ, zero, suc, nat_lt, min, if◌then◌else◌, List, [], ◌∷◌, ◌++◌, length, codes, decimal}
 use Rattle.steps.specs.Event.{after}
 use Rattle.steps.specs.State.{State, pc_of}
 use Rattle.steps.specs.declared.event.Event.{Event}
@@ -13,10 +13,14 @@ abbrev pub indent : ℕ → List ℕ
 indent zero = []
 indent (suc depth) = codes "  " ++ indent depth
 
+-- calls that never return, as of a kernel that switches threads, are not to fill the lines
+abbrev pub level : ℕ → ℕ
+level depth = min depth 64
+
 -- the newest call, around which the others are open
 abbrev pub newest_line : List Symbol → List Call → List ℕ
 newest_line symbols [] = []
-newest_line symbols (call ∷ calls) = indent (length calls) ++ call_line symbols call
+newest_line symbols (call ∷ calls) = indent (level (length calls)) ++ call_line symbols call
 
 -- a return in the event of a number, and where it goes
 unfoldable pub return_line : List Symbol → ℕ → ℕ → ℕ → List ℕ
@@ -27,7 +31,7 @@ return_line symbols number from to =
 abbrev pub event_line : List Symbol → ℕ → ℕ → ℕ → ℕ → List Call → List ℕ
 event_line symbols number from to depth calls =
     if nat_lt depth (length calls) then newest_line symbols calls
-    else if nat_lt (length calls) depth then indent (length calls) ++ return_line symbols number from to
+    else if nat_lt (length calls) depth then indent (level (length calls)) ++ return_line symbols number from to
     else []
 
 -- the lines of events, of which some came before, and left these calls open

@@ -7,7 +7,7 @@ ghost use Rattle.steps.specs.declared.event.Event.TheVariants.{Step};
 ghost use Rattle.schedules.specs.Schedule.{events_before, is_halted, scheduled, IsPlaceOf, IsRunnable};
 ghost use Rattle.schedules.specs.declared.pace.Pace.{Pace};
 ghost use Rattle.schedules.specs.declared.pace.Speed.TheVariants.{Each};
-ghost use Rattle.origin_texts.specs.CallTrace.{call_trace, event_line, indent, newest_line, return_line};
+ghost use Rattle.origin_texts.specs.CallTrace.{call_trace, event_line, indent, level, newest_line, return_line};
 ghost use Rattle.origin_texts.specs.CallTraced.{NotedStep, WritesCalls};
 ghost use Rattle.origin_texts.specs.CallTraceLaws.{wrote_more_calls, wrote_no_calls};
 
@@ -30,7 +30,14 @@ struct Place {
     depth: usize,
 }
 
-/// Appends two spaces for each call that is open around a line.
+/// How many of the calls that are open around a line are shown.
+fn level(depth: usize) -> usize
+    ensures { result ≡ level depth }
+{
+    depth.min(64)
+}
+
+/// Appends two spaces for each call that is shown around a line.
 fn append_indent(text: &mut String, depth: usize) -> Result<(), AllocError>
     ensures { OnOk result (string_bytes text.new ≡ string_bytes text.old ++ indent depth) }
 {
@@ -53,7 +60,7 @@ fn append_newest(
     if stack.is_empty() {
         return Ok(());
     }
-    append_indent(text, stack.len() - 1)?;
+    append_indent(text, level(stack.len() - 1))?;
     append_call(text, symbols, stack[0])
 }
 
@@ -98,7 +105,7 @@ fn append_event(
     if place.depth < left {
         append_newest(text, symbols, stack)
     } else if left < place.depth {
-        append_indent(text, left)?;
+        append_indent(text, level(left))?;
         append_return(text, symbols, place.number, place.from, to)
     } else {
         Ok(())

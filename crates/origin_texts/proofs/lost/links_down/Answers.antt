@@ -5,8 +5,6 @@ use Rattle.origin_texts.specs.Lost as spec
 use Rattle.origin_texts.proofs.Descending.{IsGoing, at_end, at_opening, at_tag, going_on, none_gone}
 use Rattle.origin_texts.proofs.Histories.{at_first}
 use Rattle.origin_texts.proofs.lost.links_down.Goals as goal
-use Rattle.origin_texts.proofs.lost.links_down.Goals.{else-loop-left-test}
-use Rattle.origin_texts.proofs.lost.links_down.Goals.{then-loop-left-test+in_ok-more+in_ok-count+in_default+in_ok-extend_from_slice-2+in_default-next}
 
 pub loop-left-init : goal.loop-left-init
 loop-left-init g c =
@@ -55,11 +53,11 @@ returns g c =
     let replay = option_copied c.args.replay in
     let l = c.loop-left in
     elim c.loop-left-test.branch [
-      | else-loop-left-test w ↦
+      | goal.else-loop-left-test w ↦
           let none : l.left ≡ 0 = omega (arith, w.loop-left-test.false) in
           subst (λ links. IsDown past replay c.args.place links.items false) (sym w.links-is)
           (at_opening past replay c.args.place l.links.items l.place l.left l.invariant.going (at_first past replay l.place l.left none))
-      | then-loop-left-test+in_ok-more+in_ok-count+in_default+in_ok-extend_from_slice-2+in_default-next w ↦
+      | goal.then-loop-left-test+in_ok-more+in_ok-count+in_default+in_ok-extend_from_slice-2+in_default-next w ↦
           let more = w.in_ok-more.field-0.links.items in
           let down = subst (λ ls. option_map (λ n. take n ls) w.in_ok-count.field-0 ≡ spec.down_to_tag past replay ls)
           w.deref.ensures.value w.in_ok-count.ensures.down in
