@@ -138,38 +138,27 @@ static cherisim_status call_image(cherisim_t *m) {
     return m ? status : 99;
 }
 static cherisim_status call_back(cherisim_t *m) { return cherisim_back(image, sizeof image - 1, given, COUNT_OF(given), 4, m); }
-static cherisim_status call_origin(cherisim_t *m) {
+static cherisim_status tells_of_pcc(tells_t tells, const char *begin, cherisim_t *m) {
     uint8_t told[1024] = {0xee};
     size_t length = 99;
     uint64_t line = 0;
-    cherisim_status status = cherisim_origin(image, sizeof image - 1, given, COUNT_OF(given), &pcc, (const uint8_t *)labels, strlen(labels),
-                                             told, sizeof told, &length, &line);
-    ROW(status ? length == 99 && told[0] == 0xee && line == 0 : length > 99 && memcmp(told, "pcc from mtcc", 13) == 0);
+    cherisim_status status = tells(image, sizeof image - 1, given, COUNT_OF(given), &pcc, (const uint8_t *)labels, strlen(labels), told,
+                                   sizeof told, &length, &line);
+    ROW(status ? length == 99 && told[0] == 0xee && line == 0 : memcmp(told, begin, strlen(begin)) == 0);
     return m ? status : 99;
 }
-static cherisim_status call_lost(cherisim_t *m) {
-    uint8_t told[1024] = {0xee};
-    size_t length = 99;
-    uint64_t line = 0;
-    cherisim_status status = cherisim_lost(image, sizeof image - 1, given, COUNT_OF(given), &pcc, (const uint8_t *)labels, strlen(labels),
-                                           told, sizeof told, &length, &line);
-    ROW(status ? length == 99 && told[0] == 0xee && line == 0 : length > 9 && length < sizeof told);
-    return m ? status : 99;
-}
-static cherisim_status call_links(cherisim_t *m) {
+static cherisim_status call_origin(cherisim_t *m) { return tells_of_pcc(cherisim_origin, "pcc from mtcc", m); }
+static cherisim_status call_lost(cherisim_t *m) { return tells_of_pcc(cherisim_lost, "no tag was lost at pcc\n", m); }
+static cherisim_status links_of_pcc(links_t links_of, bool are_some, cherisim_t *m) {
     cherisim_link_t links[4] = {{.before = 99}};
     size_t count = 99;
-    cherisim_status status = cherisim_origin_links(image, sizeof image - 1, given, COUNT_OF(given), &pcc, links, COUNT_OF(links), &count);
-    ROW(status ? links[0].before == 99 && count == 99 : links[0].before < 3 && count < 5);
+    cherisim_status status = links_of(image, sizeof image - 1, given, COUNT_OF(given), &pcc, links, COUNT_OF(links), &count);
+    ROW(status ? count == 99 : count < 5 && (count > 0) == are_some);
+    ROW((links[0].before == 99) == (status || !are_some));
     return m ? status : 99;
 }
-static cherisim_status call_lost_links(cherisim_t *m) {
-    cherisim_link_t links[4] = {{.before = 99}};
-    size_t count = 99;
-    cherisim_status status = cherisim_lost_links(image, sizeof image - 1, given, COUNT_OF(given), &pcc, links, COUNT_OF(links), &count);
-    ROW(links[0].before == 99 && count == (status ? 99 : 0));
-    return m ? status : 99;
-}
+static cherisim_status call_links(cherisim_t *m) { return links_of_pcc(cherisim_origin_links, true, m); }
+static cherisim_status call_lost_links(cherisim_t *m) { return links_of_pcc(cherisim_lost_links, false, m); }
 
 /* each allocation of the call fails in turn, into a handle with a machine or without one */
 static void each_fails(const char *name, cherisim_status (*call)(cherisim_t *), bool has_machine) {

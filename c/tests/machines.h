@@ -154,6 +154,13 @@ static inline bool same(cherisim_t *a, cherisim_t *b) {
     return good && same_memory(a, b);
 }
 
+/* ---- calls over pasts */
+
+typedef cherisim_status (*tells_t)(const uint8_t *, size_t, const cherisim_given_t *, size_t, const cherisim_place_t *, const uint8_t *,
+                                   size_t, uint8_t *, size_t, size_t *, uint64_t *);
+typedef cherisim_status (*links_t)(const uint8_t *, size_t, const cherisim_given_t *, size_t, const cherisim_place_t *, cherisim_link_t *,
+                                   size_t, size_t *);
+
 /* ---- machines */
 
 /* lui a1, 0x10000; addi a0, zero, 65; sb a0, 0(a1); lui a1, 0x100; sd zero, 0(a1): sends A, and halts with 0 */

@@ -93,9 +93,6 @@ static void origins(void) {
 #define KEPT "v:1 a:0000000080000100 b:0000000080000100 t:00000000080000120 p:78fff f:1 o:3ffff\n"
 #define ROOT "b:0000000000000000 t:10000000000000000 p:78fff f:1 o:3ffff\n"
 
-typedef cherisim_status (*tells_t)(const uint8_t *, size_t, const cherisim_given_t *, size_t, const cherisim_place_t *, const uint8_t *,
-                                   size_t, uint8_t *, size_t, size_t *, uint64_t *);
-
 static void told(tells_t tells, cherisim_place_t of, const char *expected) {
     char shown[2048];
     size_t length = 99, needed = strlen(expected);
